@@ -1,1 +1,16 @@
+//! Files and a sink as traits, so that what a compiler reads and writes can be stated and proved.
+//!
+//! Five types implement them. [`MemFiles`] and [`MemSink`] keep their bytes in memory and fail where
+//! they are told to, [`SureFiles`] never fails, and [`HostFiles`] and [`HostSink`] adapt the files and
+//! the standard output of the system, of whose content no contract can speak.
 #![tactic(auto)]
+
+mod answers;
+mod counts;
+mod entries;
+mod files_trait;
+mod sink_trait;
+
+pub use answers::{FileFault, Got};
+pub use files_trait::Files;
+pub use sink_trait::Sink;
