@@ -1,0 +1,4 @@
+//! The program `quartzc`.
+#![tactic(auto)]
+
+fn main() {}

@@ -1,0 +1,20 @@
+//! The call that the program `quartzc` makes: from its words to the file that is put.
+#![tactic(auto)]
+
+mod circuit;
+mod control;
+mod depth;
+mod instant_loop;
+mod parts;
+mod reader;
+mod refusal;
+mod source;
+mod status;
+mod surface;
+mod typing;
+mod verilog;
+mod vtext;
+mod wires;
+mod words;
+
+pub use status::Status;
