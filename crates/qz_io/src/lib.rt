@@ -9,8 +9,14 @@ mod answers;
 mod counts;
 mod entries;
 mod files_trait;
+mod mem_files;
+mod mem_sink;
 mod sink_trait;
+mod sure_files;
 
 pub use answers::{FileFault, Got};
 pub use files_trait::Files;
+pub use mem_files::MemFiles;
+pub use mem_sink::MemSink;
 pub use sink_trait::Sink;
+pub use sure_files::SureFiles;
