@@ -1,5 +1,5 @@
 -- What a list of entries holds, of which the first with a name counts.
-use Rattle.std.specs.Prelude.{ℕ, List, [], ◌∷◌, Option, Some, None, String, Vec, string_bytes, bytes_eq, if◌then◌else◌, option_map}
+use Rattle.std.specs.Prelude.{ℕ, List, Bool, Option, String, Vec, string_bytes, bytes_eq, find, option_map}
 use Rattle.std.specs.declared.alloc.Global.{Global}
 use Rattle.qz_io.specs.Held.{Held}
 
@@ -7,11 +7,13 @@ use Rattle.qz_io.specs.Held.{Held}
 abbrev pub Entry : Type 0
 Entry = String Global × Vec ℕ Global
 
+-- the entry has this name
+abbrev pub has_name : List ℕ → Entry → Bool
+has_name name entry = bytes_eq (string_bytes entry.0) name
+
 -- the bytes of the first entry with each name
 abbrev pub held_in : List Entry → Held
-held_in [] name = None
-held_in (entry ∷ entries) name =
-    if bytes_eq (string_bytes entry.0) name then Some entry.1.items else held_in entries name
+held_in entries name = option_map (λ entry. entry.1.items) (find (has_name name) entries)
 
 -- the bytes of the name that is kept, if one is
 abbrev pub kept_name : Option (String Global) → Option (List ℕ)

@@ -1,8 +1,9 @@
 //! What the calls on files and on a sink answer.
 ghost use Rattle.std.specs.Prelude.{◌≡◌};
-ghost use Rattle.qz_io.specs.declared.answers.FileFault.TheVariants.{Memory};
+ghost use Rattle.qz_io.specs.declared.answers.FileFault.TheVariants.{Failed, Memory};
 
 use std::alloc::{AllocError, AllocFailed};
+use std::io;
 use thiserror::Error;
 
 /// What a call of `get` found under a name.
@@ -40,5 +41,13 @@ impl<T: Drop> From<AllocFailed<T>> for FileFault {
 
     fn from(_error: AllocFailed<T>) -> FileFault {
         FileFault::Memory
+    }
+}
+
+impl From<io::Error> for FileFault {
+    ghost from_gives = { λ _ fault. fault ≡ Failed };
+
+    fn from(_error: io::Error) -> FileFault {
+        FileFault::Failed
     }
 }
