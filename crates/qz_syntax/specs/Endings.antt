@@ -1,5 +1,5 @@
 -- Which statements may end in the step in which they start. Conditions and values have no part in it.
-use Rattle.std.specs.Prelude.{ℕ, Bool, true, false, ◌&&◌, ◌||◌, List, [], ◌∷◌, ◌++◌, slice_get, unwrap_or, if◌then◌else◌}
+use Rattle.std.specs.Prelude.{ℕ, Bool, true, false, ◌||◌, List, [], ◌∷◌, ◌++◌, slice_get, unwrap_or, if◌then◌else◌}
 use Rattle.std.specs.List.{list_all, flat_map}
 use Rattle.qz_syntax.specs.declared.statements.Stmt.{Stmt, map-Stmt}
 use Rattle.qz_syntax.specs.declared.statements.Stmt.TheOpen.{Stmt-F}

@@ -1,5 +1,5 @@
 -- The numbers in a tree, each kind as the list of them in tree order.
-use Rattle.std.specs.Prelude.{ℕ, Bool, true, false, ◌&&◌, List, [], ◌∷◌, ◌++◌, map, max, fold, ◌+◌}
+use Rattle.std.specs.Prelude.{ℕ, Bool, false, List, [], ◌∷◌, ◌++◌, map, max, fold, ◌+◌}
 use Rattle.std.specs.Option.{option_to_list}
 use Rattle.std.specs.List.{concat, list_all}
 use Rattle.qz_syntax.specs.declared.statements.Binding.{Binding}

@@ -1,5 +1,5 @@
 -- How large a tree is: a sum over its nodes, which are its statements, declarations and expressions.
-use Rattle.std.specs.Prelude.{ℕ, ◌+◌, ◌-◌, ◌*◌, ◌^◌, min, List, length}
+use Rattle.std.specs.Prelude.{ℕ, ◌+◌, ◌-◌, ◌*◌, ◌^◌, min, length}
 use Rattle.std.specs.List.{sum_by}
 use Rattle.qz_syntax.specs.declared.expressions.Expr.{Expr}
 use Rattle.qz_syntax.specs.declared.expressions.Expr.TheOpen.{Expr-F}

@@ -9,7 +9,6 @@ use Rattle.qz_values.specs.Values.{type_of as type_of_value, bits_of}
 use Rattle.qz_values.specs.Tables.{type1_of, type2_of, choose_type, bit_type, slice_type, concat_type}
 use Rattle.qz_syntax.specs.declared.declarations.Class.{Class}
 use Rattle.qz_syntax.specs.declared.declarations.Class.TheVariants.{Event, Mem}
-use Rattle.qz_syntax.specs.declared.declarations.Dir.{Dir}
 use Rattle.qz_syntax.specs.declared.declarations.Dir.TheVariants as dir
 use Rattle.qz_syntax.specs.declared.declarations.Formal.{Formal}
 use Rattle.qz_syntax.specs.declared.declarations.Decl.{Decl}

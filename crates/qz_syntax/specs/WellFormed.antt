@@ -1,5 +1,5 @@
 -- Which trees, modules and whole programs are well formed.
-use Rattle.std.specs.Prelude.{◌≡◌, ℕ, ◌+◌, ◌≤◌, Bool, true, false, ◌&&◌, IsTrue, nat_le, List, [], ◌∷◌, length, Option, Some, None, is_some, slice_get, option_and_then}
+use Rattle.std.specs.Prelude.{◌≡◌, ℕ, ◌+◌, ◌≤◌, Bool, IsTrue, nat_le, List, [], length, Option, slice_get, option_and_then}
 use Rattle.std.specs.Option.{is_none}
 use Rattle.std.specs.List.{list_all, filter_map, range_with_len, sum_by}
 use Rattle.qz_values.specs.Types.{is_type}
