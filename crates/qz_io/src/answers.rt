@@ -7,7 +7,7 @@ use std::io;
 use thiserror::Error;
 
 /// What a call of `get` found under a name.
-#[derive(Debug, Drop)]
+#[derive(Debug, PartialEq, Eq, Drop)]
 pub enum Got {
     /// All the bytes that are held under the name, at most as many as were asked for.
     Bytes(Vec<u8>),

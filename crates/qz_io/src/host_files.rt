@@ -1,5 +1,5 @@
 //! The files of the system.
-ghost use Rattle.std.specs.Prelude.{◌≤◌, length, None, IfOk};
+ghost use Rattle.std.specs.Prelude.{◌≡◌, ◌≤◌, length, None, IfOk};
 ghost use Rattle.qz_io.specs.Answers.{IfBytes};
 ghost use Rattle.qz_io.specs.Entries.{kept_name};
 
@@ -24,9 +24,13 @@ pub struct HostFiles<R> {
     missed: Option<String>,
 }
 
-impl<R> HostFiles<R> {
-    /// The files that the runtime reaches.
-    pub fn new(rt: R) -> Self {
+impl<R: rt::Files> HostFiles<R> {
+    /// The files that the runtime reaches. No call has failed.
+    pub fn new(rt: R) -> Self
+        ensures read_faults { ⟦<HostFiles<R> as Files>⟧.read_faults result ≡ 0 }
+        ensures write_faults { ⟦<HostFiles<R> as Files>⟧.write_faults result ≡ 0 }
+        ensures missed { ⟦<HostFiles<R> as Files>⟧.missed result ≡ None }
+    {
         HostFiles {
             rt,
             read_faults: 0,

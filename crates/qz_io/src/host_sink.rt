@@ -1,5 +1,5 @@
 //! The standard output of the system.
-ghost use Rattle.std.specs.Prelude.{None};
+ghost use Rattle.std.specs.Prelude.{◌≡◌, None};
 
 use crate::answers::FileFault;
 use crate::counts::next_count;
@@ -18,9 +18,11 @@ pub struct HostSink<R> {
     faults: u64,
 }
 
-impl<R> HostSink<R> {
-    /// The output to which the runtime prints.
-    pub fn new(rt: R) -> Self {
+impl<R: Print> HostSink<R> {
+    /// The output to which the runtime prints. No call has failed.
+    pub fn new(rt: R) -> Self
+        ensures { ⟦<HostSink<R> as Sink>⟧.faults result ≡ 0 }
+    {
         HostSink { rt, faults: 0 }
     }
 }

@@ -16,6 +16,8 @@ mod mem_sink;
 mod reading;
 mod sink_trait;
 mod sure_files;
+#[cfg(test)]
+mod tests;
 mod writing;
 
 pub use answers::{FileFault, Got};
