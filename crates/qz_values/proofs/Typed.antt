@@ -1,5 +1,5 @@
 -- Operands of types that an operator takes may be given to it, and its result is of the type that the tables name.
-use Rattle.std.proofs.Common.{◌≡◌, ℕ, ◌+◌, ◌≤◌, ◌^◌, Bool, true, false, ◌&&◌, ◌||◌, cond, Some, None, refl, sym, ◌∙◌, ap, inl, inr, arith}
+use Rattle.std.proofs.Common.{◌≡◌, ℕ, ◌+◌, ◌≤◌, ◌^◌, Bool, true, false, ◌&&◌, ◌||◌, cond, Some, None, refl, sym, ◌∙◌, ap, inl, inr, arith, rules}
 use Rattle.std.proofs.lemmas.Bool.{and_parts, or_cases, eqb-true, leb-true}
 use Rattle.std.proofs.lemmas.Nat.{pow_pos, mod_below}
 use Rattle.qz_values.specs.declared.Ty.{Ty}
@@ -7,14 +7,15 @@ use Rattle.qz_values.specs.declared.Ty.TheVariants.{Bool as Truth, Bv}
 use Rattle.qz_values.specs.declared.Value.{Value}
 use Rattle.qz_values.specs.declared.Know.{Know}
 use Rattle.qz_values.specs.declared.Know.TheVariants.{Unknown, Known, Clash}
+use Rattle.qz_values.specs.declared.Op1.{Op1}
 use Rattle.qz_values.specs.declared.Op2.{Op2}
 use Rattle.qz_values.specs.declared.Op2.TheVariants.{And, Or, Xor, Imp, Add, Sub, Eq, Ne, Lt, Le, Gt, Ge}
 use Rattle.qz_values.specs.Types.{width_of, IsType, is_type, is_bool, is_vector, is_same_type}
 use Rattle.qz_values.specs.Values.{type_of, wrapped, truth_of, is_yes}
-use Rattle.qz_values.specs.Tables.{takes2, gives2, type2_of, choose_type, has_room, concat_type}
+use Rattle.qz_values.specs.Tables.{type1_of, bit_type, slice_type, takes2, gives2, type2_of, choose_type, has_room, concat_type}
 use Rattle.qz_values.specs.Operators.{value2, value_concat}
-use Rattle.qz_values.specs.Knowledge.{apply2_of, left_decides, right_decides, decided, from_both, is_clash, knows_yes, knows_no, choose_of, concat_of}
-use Rattle.qz_values.specs.Fits.{IsOf, HasType, allows, allows_pair, Fits2, FitsChoose, FitsConcat, IsTyped2, IsTyped3}
+use Rattle.qz_values.specs.Knowledge.{apply2_of, left_decides, right_decides, decided, from_both, is_clash, knows_yes, knows_no, choose_of, concat_of, apply1_of, bit_of, slice_of}
+use Rattle.qz_values.specs.Fits.{IsOf, HasType, allows, allows_pair, Fits2, FitsChoose, Fits1, FitsBit, FitsSlice, FitsConcat, IsTyped1, IsTyped2, IsTyped3}
 use Rattle.qz_values.proofs.Widths.{IsType-is_type, IsType-is_vector}
 
 pub same-is_same_type : (s t : Ty) → is_same_type s t ≡ true → s ≡ t
@@ -185,3 +186,12 @@ typed_concat s t u a b e h k =
       },
       rw (← found.1) (HasType-from_both value_concat s t (Bv (width_of s + width_of t)) a b (IsOf-value_concat s t) h k),
     )
+
+pub typed1 : (op : Op1) → IsTyped1 (type1_of op) (Fits1 op) (apply1_of op)
+typed1 op = search rules
+
+pub typed_bit : (i : ℕ) → IsTyped1 (λ t. bit_type t i) (λ a. FitsBit a i) (λ a. bit_of a i)
+typed_bit i = search rules
+
+pub typed_slice : (high low : ℕ) → IsTyped1 (λ t. slice_type t high low) (λ a. FitsSlice a high low) (λ a. slice_of a high low)
+typed_slice high low = search rules
