@@ -1,0 +1,6 @@
+pub mod ListLemmas
+pub mod TextLemmas
+pub mod RunLemmas
+pub mod WordLemmas
+pub mod StartLemmas
+pub mod PieceLemmas
