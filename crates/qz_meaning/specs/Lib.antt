@@ -20,3 +20,4 @@ pub mod Rounds
 pub mod MacroSteps
 pub mod Runs
 pub mod Valuations
+pub mod Examples
