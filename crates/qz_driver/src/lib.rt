@@ -1,6 +1,8 @@
 //! The call that the program `quartzc` makes: from its words to the file that is put.
 #![tactic(auto)]
 
+mod build;
+mod call;
 mod circuit;
 mod control;
 mod depth;
@@ -16,5 +18,8 @@ mod verilog;
 mod vtext;
 mod wires;
 mod words;
+#[cfg(test)]
+mod tests;
 
+pub use call::quartzc;
 pub use status::Status;

@@ -1,5 +1,8 @@
 //! Reads a source of the first language: bytes to tokens, tokens to the tree.
 
+ghost use Rattle.std.specs.Prelude.{◌≤◌, length, OnOk};
+ghost use Rattle.qz_driver.specs.Reading.{Advances};
+
 use crate::source::{SourceModule, SourceStmt};
 use qz_lexer::{LexFault, Token, lex};
 use qz_syntax::{Class, Dir, Formal, Name};
@@ -45,49 +48,59 @@ impl From<LexFault> for NoSource {
     }
 }
 
-/// The tokens that are still to be read.
+/// The tokens of a text, and how many of them are read.
+#[derive(Drop)]
 struct Cursor<'a, 't> {
-    rest: &'a [Token<'t>],
+    tokens: &'a [Token<'t>],
+    read: usize,
 }
 
-impl<'a, 't> Cursor<'a, 't> {
+impl<'t> Cursor<'_, 't> {
     /// Whether the next token has this text.
     fn is_next(&self, text: &str) -> bool {
-        match self.rest {
-            [first, ..] => first.text == text,
-            [] => false,
+        self.read < self.tokens.len() && self.tokens[self.read].text == text
+    }
+
+    /// Reads the next token.
+    fn next(&mut self) -> Result<&'t str, NoSource>
+        ensures { OnOk result (Advances self.old.tokens.now self.new.tokens.now self.old.read self.new.read) }
+    {
+        if self.read >= self.tokens.len() {
+            return Err(NoSource::NotBuilt);
+        }
+        let token = self.tokens[self.read];
+        self.read += 1;
+        Ok(token.text)
+    }
+
+    /// Reads the next token, which has this text.
+    fn pass(&mut self, text: &str) -> Result<(), NoSource>
+        ensures { OnOk result (Advances self.old.tokens.now self.new.tokens.now self.old.read self.new.read) }
+    {
+        let next = self.next()?;
+        if next == text {
+            Ok(())
+        } else {
+            Err(NoSource::NotBuilt)
         }
     }
 
-    /// Passes the next token.
-    fn next(&mut self) -> Result<&'a Token<'t>, NoSource> {
-        match self.rest.split_first() {
-            Some((first, rest)) => {
-                self.rest = rest;
-                Ok(first)
-            }
-            None => Err(NoSource::NotBuilt),
-        }
-    }
-
-    /// Passes the next token, which has this text.
-    fn pass(&mut self, text: &str) -> Result<(), NoSource> {
-        let first = self.next()?;
-        if first.text == text { Ok(()) } else { Err(NoSource::NotBuilt) }
-    }
-
-    /// Passes the next token, which is a name.
-    fn name(&mut self, alloc: Global) -> Result<Name, NoSource> {
-        let first = self.next()?;
-        match Name::new(alloc, first.text)? {
+    /// Reads the next token, which is a name.
+    fn name(&mut self, alloc: Global) -> Result<Name, NoSource>
+        ensures { OnOk result (Advances self.old.tokens.now self.new.tokens.now self.old.read self.new.read) }
+    {
+        let next = self.next()?;
+        match Name::new(alloc, next)? {
             Some(name) => Ok(name),
             None => Err(NoSource::NotBuilt),
         }
     }
 }
 
-/// Reads a source.
-pub fn read_source(alloc: Global, bytes: &[u8]) -> Result<SourceModule, NoSource> {
+/// Reads a source of at most 1 MiB.
+pub fn read_source(alloc: Global, bytes: &[u8]) -> Result<SourceModule, NoSource>
+    requires { length bytes.now ≤ 1048576 }
+{
     let Ok(text) = str::from_utf8(bytes) else {
         return Err(NoSource::NotBuilt);
     };
@@ -96,12 +109,15 @@ pub fn read_source(alloc: Global, bytes: &[u8]) -> Result<SourceModule, NoSource
         return Err(NoSource::NotBuilt);
     }
     let tokens = lex(alloc, text)?;
-    let mut cursor = Cursor { rest: tokens.as_slice() };
+    let mut cursor = Cursor {
+        tokens: tokens.as_slice(),
+        read: 0,
+    };
     let module = source_module(alloc, &mut cursor)?;
-    match cursor.rest {
-        [] => Ok(module),
-        _ => Err(NoSource::NotBuilt),
+    if cursor.read < tokens.len() {
+        return Err(NoSource::NotBuilt);
     }
+    Ok(module)
 }
 
 fn source_module(alloc: Global, cursor: &mut Cursor<'_, '_>) -> Result<SourceModule, NoSource> {
@@ -146,7 +162,9 @@ fn statements(
     alloc: Global,
     cursor: &mut Cursor<'_, '_>,
     level: u32,
-) -> Result<Items<SourceStmt>, NoSource> {
+) -> Result<Items<SourceStmt>, NoSource>
+    ensures { OnOk result (Advances cursor.old.tokens.now cursor.new.tokens.now cursor.old.read cursor.new.read) }
+{
     let mut parts = Items::new(alloc);
     while !cursor.is_next("}") {
         parts.push(statement(alloc, cursor, level)?)?;
@@ -161,12 +179,13 @@ fn statement(
     alloc: Global,
     cursor: &mut Cursor<'_, '_>,
     level: u32,
-) -> Result<SourceStmt, NoSource> {
+) -> Result<SourceStmt, NoSource>
+    ensures { OnOk result (Advances cursor.old.tokens.now cursor.new.tokens.now cursor.old.read cursor.new.read) }
+{
     if level > MAX_LEVEL {
         return Err(NoSource::NotBuilt);
     }
-    let first = cursor.next()?;
-    match first.text {
+    match cursor.next()? {
         "nothing" => {
             cursor.pass(";")?;
             Ok(SourceStmt::Nothing)

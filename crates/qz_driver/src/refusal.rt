@@ -16,15 +16,22 @@ pub enum Refusal<'w> {
     InstantLoop { module: Name, number: u32 },
 }
 
-/// The line, with its end.
-pub fn line_of(alloc: Global, refusal: &Refusal<'_>) -> Result<String, AllocError> {
-    match refusal {
-        Refusal::Usage => String::from_str(alloc, "usage: quartzc MODE NAME FILE...\n"),
-        Refusal::Absent { file } => format!(in alloc; "{file}: absent\n"),
-        Refusal::NotBuilt { file } => format!(in alloc; "{file}: not built yet\n"),
-        Refusal::InstantLoop { module, number } => {
-            let module = module.as_str();
-            format!(in alloc; "loop {number} of {module} may end at once\n")
+impl Refusal<'_> {
+    ghost use Rattle.std.specs.Prelude.{◌≡◌, IfOk, string_bytes};
+    ghost use Rattle.qz_driver.specs.Causes.{cause_of, line_of};
+
+    /// The line, with its end.
+    pub fn line(&self, alloc: Global) -> Result<String, AllocError>
+        ensures { IfOk result (λ line. string_bytes line ≡ line_of (cause_of self.now)) }
+    {
+        match self {
+            Refusal::Usage => String::from_str(alloc, "usage: quartzc MODE NAME FILE...\n"),
+            Refusal::Absent { file } => format!(in alloc; "{file}: absent\n"),
+            Refusal::NotBuilt { file } => format!(in alloc; "{file}: not built yet\n"),
+            Refusal::InstantLoop { module, number } => {
+                let module = module.as_str();
+                format!(in alloc; "loop {number} of {module} may end at once\n")
+            }
         }
     }
 }

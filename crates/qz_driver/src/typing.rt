@@ -12,6 +12,7 @@ use std::alloc::Global;
 pub const MAX_UNITS: u64 = 100_000;
 
 /// How many places and loops stand before a statement in tree order.
+#[derive(Drop)]
 struct Counts {
     places: u32,
     loops: u32,
@@ -35,27 +36,52 @@ impl Counts {
 
 /// The module that a source describes, whose name has to be this one.
 pub fn typed(alloc: Global, name: &str, source: SourceModule) -> Result<Module, NoSource> {
-    if source.name.as_str() != name || source.formals.len() > MAX_FORMALS {
+    if !is_asked(name, &source) {
         return Err(NoSource::NotBuilt);
     }
     let mut counts = Counts { places: 0, loops: 0 };
-    let body = {
-        let numbers = numbers(alloc, source.formals.as_slice())?;
-        statements(alloc, &numbers, &mut counts, source.body.as_slice())?
-    };
-    let module = Module {
+    let body = body(alloc, &source, &mut counts)?;
+    let labels = unlabeled(alloc, counts.places)?;
+    small(module_of(alloc, source, labels, counts.loops, body))
+}
+
+/// Whether the source has this name and not too many formals.
+fn is_asked(name: &str, source: &SourceModule) -> bool {
+    source.name.as_str() == name && source.formals.len() <= MAX_FORMALS
+}
+
+/// The module, if it isn't too large.
+fn small(module: Module) -> Result<Module, NoSource> {
+    if size(&module) <= MAX_UNITS {
+        Ok(module)
+    } else {
+        Err(NoSource::NotBuilt)
+    }
+}
+
+/// The statement of the module's block.
+fn body(alloc: Global, source: &SourceModule, counts: &mut Counts) -> Result<Stmt, NoSource> {
+    let numbers = numbers(alloc, source.formals.as_slice())?;
+    statements(alloc, &numbers, counts, source.body.as_slice())
+}
+
+/// The module with these labels, so many loops and this body.
+fn module_of(
+    alloc: Global,
+    source: SourceModule,
+    labels: Items<Option<Name>>,
+    loops: u32,
+    body: Stmt,
+) -> Module {
+    Module {
         name: source.name,
         formals: source.formals,
         decls: Items::new(alloc),
-        labels: unlabeled(alloc, counts.places)?,
-        loops: counts.loops,
+        labels,
+        loops,
         calls: 0,
         body,
-    };
-    if size(&module) > MAX_UNITS {
-        return Err(NoSource::NotBuilt);
     }
-    Ok(module)
 }
 
 /// The formals' names, each at its number; they all differ.

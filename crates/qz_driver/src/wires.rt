@@ -6,6 +6,7 @@ use qz_values::{Op2, Value};
 use std::alloc::{AllocError, Global};
 
 /// The wires so far, each at its number.
+#[derive(Drop)]
 pub struct Wires {
     table: IndexSet<Rhs>,
 }

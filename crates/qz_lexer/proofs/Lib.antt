@@ -3,4 +3,8 @@ pub mod TextLemmas
 pub mod RunLemmas
 pub mod WordLemmas
 pub mod StartLemmas
+pub mod CommentLemmas
+pub mod ValueLemmas
 pub mod PieceLemmas
+pub mod CutLemmas
+pub mod LexLemmas
