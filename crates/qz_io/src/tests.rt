@@ -2,38 +2,67 @@
 use crate::reading::read_all;
 use crate::writing::write_bytes;
 use crate::{FileFault, Files, Got, HostFiles, HostSink, MemFiles, MemSink, Sink, SureFiles};
+use std::alloc::Global;
 use std::fmt::Display;
 use std::io::{ErrorKind, Read, Write};
+use std::process::Abort;
 use std::test::Fail;
 use std::{fs, io};
+
+/// The bytes, or words for another answer.
+fn shown(answer: &Result<Got, FileFault>) -> &[u8] {
+    match answer {
+        Ok(Got::Bytes(bytes)) => bytes.as_slice(),
+        Ok(Got::Absent) => b"absent",
+        Ok(Got::TooLong) => b"too long",
+        Err(FileFault::Failed) => b"failed",
+        Err(FileFault::Memory) => b"no memory",
+    }
+}
+
+/// Reads each name with its budget, and asserts what comes.
+fn assert_gets<F: Files>(
+    rt: &impl Abort,
+    alloc: Global,
+    files: &mut F,
+    table: &[(&str, u64, &str)],
+) {
+    for (name, max, want) in table {
+        let answer = files.get(alloc, name, *max);
+        let is_wanted = shown(&answer) == want.as_bytes();
+        assert!(rt; is_wanted, "{name} within {max}");
+    }
+}
 
 #[test]
 fn files_in_memory(rt: HostRuntime) -> Result<(), Fail> {
     let alloc = rt.alloc();
     let mut files = MemFiles::new(alloc);
-    files.fail.push(2)?;
-    files.fail.push(4)?;
+    files.fail = vec![in alloc; 2, 5]?;
     files.put(alloc, "a", b"one")?;
-    assert_eq!(rt;
-        files.get(alloc, "a", 3),
-        Ok(Got::Bytes(b"one".to_vec(alloc)?))
-    );
-    assert_eq!(rt; files.get(alloc, "b", 3), Err(FileFault::Failed));
-    assert_eq!(rt; files.missed.as_deref(), Some("b"));
-    assert_eq!(rt; files.get(alloc, "b", 3), Ok(Got::Absent));
-    assert_eq!(rt; files.put(alloc, "a", b"two"), Err(FileFault::Failed));
-    files
-        .held
-        .push((String::from_str(alloc, "a")?, Vec::new(alloc)))?;
-    assert_eq!(rt;
-        files.get(alloc, "a", 3),
-        Ok(Got::Bytes(b"one".to_vec(alloc)?))
-    );
-    assert_eq!(rt; files.get(alloc, "a", 2), Ok(Got::TooLong));
-    assert_eq!(rt;
-        (files.calls, files.read_faults, files.write_faults),
-        (7, 1, 1)
-    );
+    let table = [
+        ("a", 3, "one"),
+        ("b", 3, "failed"),
+        ("b", 3, "absent"),
+        ("a", 2, "too long"),
+    ];
+    assert_gets(&rt, alloc, &mut files, &table);
+    assert!(rt; files.put(alloc, "a", b"two").is_err());
+    assert_gets(&rt, alloc, &mut files, &[("a", 3, "one")]);
+    assert!(rt; files.calls == 7 && files.read_faults == 1 && files.write_faults == 1);
+    Ok(())
+}
+
+#[test]
+fn first_entry_counts(rt: HostRuntime) -> Result<(), Fail> {
+    let alloc = rt.alloc();
+    let mut files = SureFiles::new(alloc);
+    files.put(alloc, "a", b"one")?;
+    let second = (String::from_str(alloc, "a")?, Vec::new(alloc));
+    files.held.push(second)?;
+    assert_gets(&rt, alloc, &mut files, &[("a", 3, "one")]);
+    files.put(alloc, "a", b"two")?;
+    assert_gets(&rt, alloc, &mut files, &[("a", 3, "two")]);
     Ok(())
 }
 
@@ -44,24 +73,9 @@ fn counts_stay_at_the_largest(rt: HostRuntime) -> Result<(), Fail> {
     files.fail.push(u64::MAX)?;
     files.calls = u64::MAX;
     files.read_faults = u64::MAX - 1;
-    for _ in 0..2 {
-        assert_eq!(rt; files.get(alloc, "a", 0), Err(FileFault::Failed));
-        assert_eq!(rt; (files.calls, files.read_faults), (u64::MAX, u64::MAX));
-    }
-    Ok(())
-}
-
-#[test]
-fn files_that_never_fail(rt: HostRuntime) -> Result<(), Fail> {
-    let alloc = rt.alloc();
-    let mut files = SureFiles::new(alloc);
-    files.put(alloc, "a", b"one")?;
-    files.put(alloc, "a", b"two")?;
-    assert_eq!(rt; files.held.len(), 1);
-    assert_eq!(rt;
-        files.get(alloc, "a", 3),
-        Ok(Got::Bytes(b"two".to_vec(alloc)?))
-    );
+    let table = [("a", 0, "failed"), ("b", 0, "failed")];
+    assert_gets(&rt, alloc, &mut files, &table);
+    assert!(rt; files.calls == u64::MAX && files.read_faults == u64::MAX);
     Ok(())
 }
 
@@ -71,10 +85,10 @@ fn sink_in_memory(rt: HostRuntime) -> Result<(), Fail> {
     let mut sink = MemSink::new(alloc);
     sink.fail.push(1)?;
     sink.put(alloc, b"one")?;
-    assert_eq!(rt; sink.put(alloc, b"two"), Err(FileFault::Failed));
+    assert!(rt; sink.put(alloc, b"two").is_err());
     sink.put(alloc, b"three")?;
-    assert_eq!(rt; sink.bytes.as_slice(), b"onethree".as_slice());
-    assert_eq!(rt; (sink.calls, sink.faults), (3, 1));
+    assert!(rt; sink.bytes.as_slice() == b"onethree".as_slice());
+    assert!(rt; sink.calls == 3 && sink.faults == 1);
     Ok(())
 }
 
@@ -142,36 +156,28 @@ fn make_trickle(bytes: Vec<u8>, fail_at: usize, stop_at: usize) -> Trickle {
 #[test]
 fn reads_a_byte_at_a_time(rt: HostRuntime) -> Result<(), Fail> {
     let alloc = rt.alloc();
-    let three = b"one".to_vec(alloc)?;
-    let whole = Ok(Got::Bytes(three.clone()?));
-    let failed = Err(FileFault::Failed);
-    let cases = [
-        (9, 3, whole),
-        (9, 2, Ok(Got::TooLong)),
-        (2, 3, failed),
-        (3, 3, Err(FileFault::Failed)),
+    let table = [
+        (9, 3, "one"),
+        (9, 2, "too long"),
+        (2, 3, "failed"),
+        (3, 3, "failed"),
     ];
-    for (fail_at, max, want) in cases {
-        let mut reader = make_trickle(three.clone()?, fail_at, 9);
-        assert_eq!(rt;
-            read_all(alloc, &mut reader, max),
-            want,
-            "at {fail_at}, {max}"
-        );
+    for (fail_at, max, want) in table {
+        let mut reader = make_trickle(b"one".to_vec(alloc)?, fail_at, 9);
+        let is_wanted = shown(&read_all(alloc, &mut reader, max)) == want.as_bytes();
+        assert!(rt; is_wanted, "failing at {fail_at}, within {max}");
     }
     Ok(())
 }
 
 #[test]
-fn writes_a_byte_at_a_time(rt: HostRuntime) -> Result<(), Fail> {
-    let alloc = rt.alloc();
+fn writes_a_byte_at_a_time(rt: HostRuntime) {
     for (fail_at, stop_at, want) in [(9, 9, "one"), (2, 9, "on"), (9, 1, "o")] {
-        let mut writer = make_trickle(Vec::new(alloc), fail_at, stop_at);
-        let written = write_bytes(&mut writer, b"one");
-        assert_eq!(rt; written.is_ok(), want == "one");
-        assert_eq!(rt; writer.bytes.as_slice(), want.as_bytes());
+        let mut writer = make_trickle(Vec::new(rt.alloc()), fail_at, stop_at);
+        let is_whole = write_bytes(&mut writer, b"one").is_ok();
+        let is_wanted = writer.bytes.as_slice() == want.as_bytes();
+        assert!(rt; is_wanted && is_whole == (want == "one"), "{want}");
     }
-    Ok(())
 }
 
 const FOLDER: &str = "qz_io_test";
@@ -184,16 +190,16 @@ fn files_of_the_system(rt: HostRuntime) -> Result<(), Fail> {
     let _ = fs::remove_dir_all(&rt, FOLDER);
     fs::create_dir(&rt, FOLDER)?;
     let mut files = HostFiles::new(rt);
-    assert_eq!(rt; files.get(alloc, NAME, 3), Ok(Got::Absent));
+    assert_gets(&rt, alloc, &mut files, &[(NAME, 3, "absent")]);
     files.put(alloc, NAME, b"longer")?;
     files.put(alloc, NAME, b"one")?;
-    assert_eq!(rt;
-        files.get(alloc, NAME, 3),
-        Ok(Got::Bytes(b"one".to_vec(alloc)?))
-    );
-    assert_eq!(rt; files.get(alloc, NAME, 2), Ok(Got::TooLong));
-    assert_eq!(rt; files.get(alloc, FOLDER, 3), Err(FileFault::Failed));
-    assert_eq!(rt; files.put(alloc, FOLDER, b"one"), Err(FileFault::Failed));
+    assert!(rt; files.put(alloc, FOLDER, b"one").is_err());
+    let table = [
+        (NAME, 3, "one"),
+        (NAME, 2, "too long"),
+        (FOLDER, 3, "failed"),
+    ];
+    assert_gets(&rt, alloc, &mut files, &table);
     fs::remove_dir_all(&rt, FOLDER)?;
     Ok(())
 }
@@ -220,9 +226,6 @@ impl Print for Broken {
 fn standard_output(rt: HostRuntime) -> Result<(), Fail> {
     let alloc = rt.alloc();
     HostSink::new(rt).put(alloc, b"a line\n")?;
-    assert_eq!(rt;
-        HostSink::new(Broken).put(alloc, b"a line\n"),
-        Err(FileFault::Failed)
-    );
+    assert!(rt; HostSink::new(Broken).put(alloc, b"a line\n").is_err());
     Ok(())
 }
