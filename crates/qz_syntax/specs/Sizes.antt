@@ -11,6 +11,7 @@ use Rattle.qz_syntax.specs.declared.statements.Stmt.{Stmt}
 use Rattle.qz_syntax.specs.declared.statements.Stmt.TheOpen.{Stmt-F}
 use Rattle.qz_syntax.specs.declared.statements.Stmt.TheFolds.{fold-Stmt}
 use Rattle.qz_syntax.specs.declared.modules.Module.{Module}
+use Rattle.qz_syntax.specs.Numbers.{parts_of}
 
 -- one expression, with the number of nodes of each operand in its place
 abbrev pub node_expression : Expr-F ℕ → ℕ
@@ -35,21 +36,28 @@ argument_nodes (Out variable) = 0
 abbrev pub binding_nodes : Binding → ℕ
 binding_nodes binding = expression_nodes binding.value
 
+-- a statement's own node, those of its expressions and those of its declarations
+abbrev pub own_nodes : {A : Type 0} → Stmt-F A → ℕ
+own_nodes (Stmt-F.Assign target value) = 1 + expression_nodes value
+own_nodes (Stmt-F.Delayed target value) = 1 + expression_nodes value
+own_nodes (Stmt-F.If condition first second) = 1 + expression_nodes condition
+own_nodes (Stmt-F.Loop number body condition) = 1 + expression_nodes condition
+own_nodes (Stmt-F.Abort kind body condition) = 1 + expression_nodes condition
+own_nodes (Stmt-F.Suspend kind hold body condition) = 1 + expression_nodes condition
+own_nodes (Stmt-F.Scope locals body) = 1 + length locals
+own_nodes (Stmt-F.Call number proto arguments) = 1 + sum_by argument_nodes arguments
+own_nodes (Stmt-F.Bind bindings body) = 1 + sum_by binding_nodes bindings
+own_nodes other = 1
+
+-- how many loops are round a statement's parts; a loop's condition stands outside it
+abbrev pub loops_inside : {A : Type 0} → Stmt-F A → ℕ → ℕ
+loops_inside (Stmt-F.Loop number body condition) loops = loops + 1
+loops_inside other loops = loops
+
 -- one statement, given what a node counts inside how many loops, and how many loops are round it
 abbrev pub node_sum : (ℕ → ℕ) → Stmt-F (ℕ → ℕ) → ℕ → ℕ
-node_sum weight Stmt-F.Nothing loops = weight loops
-node_sum weight (Stmt-F.Assign target value) loops = weight loops + expression_nodes value * weight loops
-node_sum weight (Stmt-F.Delayed target value) loops = weight loops + expression_nodes value * weight loops
-node_sum weight (Stmt-F.Pause place) loops = weight loops
-node_sum weight (Stmt-F.Seq parts) loops = weight loops + sum_by (λ part. part loops) parts
-node_sum weight (Stmt-F.Par parts) loops = weight loops + sum_by (λ part. part loops) parts
-node_sum weight (Stmt-F.If condition first second) loops = weight loops + expression_nodes condition * weight loops + first loops + second loops
-node_sum weight (Stmt-F.Loop number body condition) loops = weight loops + expression_nodes condition * weight loops + body (loops + 1)
-node_sum weight (Stmt-F.Abort kind body condition) loops = weight loops + expression_nodes condition * weight loops + body loops
-node_sum weight (Stmt-F.Suspend kind hold body condition) loops = weight loops + expression_nodes condition * weight loops + body loops
-node_sum weight (Stmt-F.Scope locals body) loops = weight loops + length locals * weight loops + body loops
-node_sum weight (Stmt-F.Call number proto arguments) loops = weight loops + sum_by argument_nodes arguments * weight loops
-node_sum weight (Stmt-F.Bind bindings body) loops = weight loops + sum_by binding_nodes bindings * weight loops + body loops
+node_sum weight node loops =
+    own_nodes node * weight loops + sum_by (λ part. part (loops_inside node loops)) (parts_of node)
 
 -- the sum over the nodes of a statement that stands inside some loops
 abbrev pub sum_over_nodes : (ℕ → ℕ) → Stmt → ℕ → ℕ
@@ -57,7 +65,7 @@ sum_over_nodes weight = fold-Stmt (ℕ → ℕ) (node_sum weight)
 
 -- a node counts 2, and 1 more for each loop round it
 abbrev pub units_inside : Stmt → ℕ → ℕ
-units_inside = sum_over_nodes (λ loops. 2 + loops)
+units_inside = sum_over_nodes (λ loops. loops + 2)
 
 -- how many nodes a statement has
 abbrev pub nodes_of : Stmt → ℕ

@@ -5,7 +5,7 @@ use Rattle.std.specs.Str.{bytes_eq}
 use Rattle.unicode_ident.specs.Ident.{is_xid_start, is_xid_continue}
 
 -- the words that are no names, of which the last seven have no use
-abbrev pub reserved_words : List (List ℕ)
+unfoldable pub reserved_words : List (List ℕ)
 reserved_words =
     codes "module" ∷ codes "event" ∷ codes "mem" ∷ codes "bool" ∷ codes "bv" ∷ codes "true" ∷ codes "false" ∷ codes "nothing"
     ∷ codes "pause" ∷ codes "halt" ∷ codes "await" ∷ codes "immediate" ∷ codes "next" ∷ codes "emit" ∷ codes "if" ∷ codes "else"
