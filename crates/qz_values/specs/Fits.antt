@@ -3,7 +3,7 @@ use Rattle.std.specs.Prelude.{◌≡◌, ℕ, ◌<◌, ◌^◌, Bool, true, IsTr
 use Rattle.qz_values.specs.declared.Ty.{Ty}
 use Rattle.qz_values.specs.declared.Value.{Value}
 use Rattle.qz_values.specs.declared.Know.{Know}
-use Rattle.qz_values.specs.declared.Know.TheVariants.{Unknown, Known, Clash}
+use Rattle.qz_values.specs.declared.Know.TheVariants.{Known}
 use Rattle.qz_values.specs.declared.Op1.{Op1}
 use Rattle.qz_values.specs.declared.Op2.{Op2}
 use Rattle.qz_values.specs.Types.{width_of, IsType, is_type, is_bool, is_vector, is_same_type}

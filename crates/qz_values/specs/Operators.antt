@@ -1,6 +1,5 @@
 -- What each operator gives of values: whole numbers, modulo 2 to the power of the result's width.
-use Rattle.std.specs.Prelude.{ℕ, ◌+◌, ◌-◌, ◌*◌, ◌/◌, ◌%◌, ◌^◌, Bool, true, false, ◌==◌, ◌||◌, not, nat_lt, nat_le, bit_and, bit_or, bit_xor}
-use Rattle.qz_values.specs.declared.Ty.{Ty}
+use Rattle.std.specs.Prelude.{ℕ, ◌+◌, ◌-◌, ◌*◌, ◌/◌, ◌%◌, ◌^◌, ◌==◌, ◌||◌, not, nat_lt, nat_le, bit_and, bit_or, bit_xor}
 use Rattle.qz_values.specs.declared.Ty.TheVariants.{Bool as Truth, Bv}
 use Rattle.qz_values.specs.declared.Value.{Value}
 use Rattle.qz_values.specs.declared.Op1.{Op1}

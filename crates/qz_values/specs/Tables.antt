@@ -1,5 +1,5 @@
 -- Which operands each operator takes, and the type of what it gives. `None`: there are no such operands.
-use Rattle.std.specs.Prelude.{ℕ, ◌+◌, ◌-◌, Bool, true, false, ◌&&◌, nat_lt, nat_le, if◌then◌else◌, Option, Some, None}
+use Rattle.std.specs.Prelude.{ℕ, ◌+◌, ◌-◌, Bool, ◌&&◌, nat_lt, nat_le, if◌then◌else◌, Option, Some, None}
 use Rattle.qz_values.specs.declared.Ty.{Ty}
 use Rattle.qz_values.specs.declared.Ty.TheVariants.{Bool as Truth, Bv}
 use Rattle.qz_values.specs.declared.Op1.{Op1}

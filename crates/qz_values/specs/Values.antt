@@ -1,7 +1,7 @@
 -- The values: a type and a number that its bits can hold.
 use Rattle.std.specs.Prelude.{ℕ, ◌<◌, ◌%◌, ◌^◌, Bool, true, false, ◌==◌, ◌&&◌}
 use Rattle.qz_values.specs.declared.Ty.{Ty}
-use Rattle.qz_values.specs.declared.Ty.TheVariants.{Bool as Truth, Bv}
+use Rattle.qz_values.specs.declared.Ty.TheVariants.{Bool as Truth}
 use Rattle.qz_values.specs.declared.Value.{Value}
 use Rattle.qz_values.specs.Types.{width_of, IsType, is_bool}
 

@@ -57,7 +57,8 @@ pub fn choose(c: Know, a: Know, b: Know) -> Know
 {
     match c {
         Know::Unknown => Know::Unknown,
-        Know::Known(v) => { if is_true(v) { a } else { b } }
+        Know::Known(v) if is_true(v) => a,
+        Know::Known(_) => b,
         Know::Clash => Know::Clash,
     }
 }

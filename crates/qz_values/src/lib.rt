@@ -12,6 +12,8 @@ ghost use Rattle.qz_values.specs.Values.{value_of, type_of, bits_of, truth_of, d
 
 mod known;
 mod laws;
+#[cfg(test)]
+mod tests;
 mod typing;
 mod words;
 

@@ -1,0 +1,5 @@
+pub mod Numbers
+pub mod Widths
+pub mod Typed
+pub mod Monotone
+pub mod Connectives
