@@ -1,0 +1,9 @@
+pub mod Spelling
+pub mod Sizes
+pub mod Endings
+pub mod Marks
+pub mod Numbers
+pub mod Typing
+pub mod Sound
+pub mod DoubleNames
+pub mod WellFormed

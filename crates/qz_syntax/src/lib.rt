@@ -8,16 +8,22 @@
 
 mod declarations;
 mod expressions;
+mod marks;
+mod may_end_rule;
 mod modules;
 mod names;
 mod places;
 mod refusals;
+mod sizes;
 mod statements;
 
 pub use declarations::{Class, Decl, Dir, Formal, Port, Proto};
 pub use expressions::{Expr, Var};
+pub use marks::marks_of;
+pub use may_end_rule::may_end;
 pub use modules::{Module, Names, Typed, Whole};
 pub use names::{Name, Text};
 pub use places::{Later, Mark, Place, Residual, Store};
 pub use refusals::{CompileRefusal, Doubt, LinkRefusal};
+pub use sizes::size;
 pub use statements::{Arg, Binding, Kind, Stmt};

@@ -1,0 +1,4 @@
+pub mod Equations
+pub mod Trees
+pub mod SizeLemmas
+pub mod SpellingLemmas
