@@ -3,4 +3,6 @@ pub mod TextLemmas
 pub mod RunLemmas
 pub mod WordLemmas
 pub mod StartLemmas
+pub mod CommentLemmas
+pub mod ValueLemmas
 pub mod PieceLemmas

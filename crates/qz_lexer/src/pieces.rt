@@ -7,7 +7,7 @@ ghost use Rattle.qz_lexer.specs.Starts.{StartsWith};
 ghost use Rattle.qz_lexer.specs.declared.starts.Start.TheVariants.{Digit, Slash, Letter, Other};
 
 use crate::comments::comment;
-use crate::runs::Run;
+use crate::runs::{Run, first_char, front};
 use crate::starts::Start;
 use crate::tokens::TokenKind;
 use crate::words::{is_double_sign, is_reserved, is_single_sign};
@@ -26,13 +26,9 @@ pub(crate) struct Front<'t> {
 pub(crate) fn first_piece(text: &str) -> Option<Front<'_>>
     ensures { Finds (chars text.now) result }
 {
-    let mut cursor = text.chars();
-    let first = cursor.next()?;
+    let (first, after) = first_char(text)?;
     match Start::of(first) {
-        Start::Space => Some(Front {
-            kind: None,
-            after: cursor.as_str(),
-        }),
+        Start::Space => Some(Front { kind: None, after }),
         Start::Digit => number(text),
         Start::Slash => blank(text),
         Start::Letter => word(text),
@@ -79,8 +75,7 @@ fn word(text: &str) -> Option<Front<'_>>
     if count > 64 {
         return None;
     }
-    let (word, _) = text.split_at(text.len() - after.len());
-    let kind = if is_reserved(word) {
+    let kind = if is_reserved(front(text, after)) {
         TokenKind::Keyword
     } else {
         TokenKind::Name
@@ -96,17 +91,15 @@ fn sign(text: &str) -> Option<Front<'_>>
     requires { StartsWith Other (chars text.now) }
     ensures { Finds (chars text.now) result }
 {
-    let mut cursor = text.chars();
-    let first = cursor.next()?;
-    let after = cursor.as_str();
-    match cursor.next() {
-        Some(second) if is_double_sign(first, second) => Some(Front {
+    let (first, after_first) = first_char(text)?;
+    match first_char(after_first) {
+        Some((second, after)) if is_double_sign(first, second) => Some(Front {
             kind: Some(TokenKind::Sign),
-            after: cursor.as_str(),
+            after,
         }),
         _ if is_single_sign(first) => Some(Front {
             kind: Some(TokenKind::Sign),
-            after,
+            after: after_first,
         }),
         _ => None,
     }

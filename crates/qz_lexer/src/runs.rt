@@ -1,10 +1,29 @@
 //! Runs of characters of one sort.
 
-ghost use Rattle.std.specs.Prelude.{◌≡◌};
+ghost use Rattle.std.specs.Prelude.{◌≡◌, ℕ, List, [], ◌∷◌, ◌++◌, MatchOption, encode_utf8_all};
 ghost use Rattle.std.specs.Str.{chars};
 ghost use Rattle.qz_lexer.specs.Runs.{Skips, accepts};
 
 use unicode_ident::is_xid_continue;
+
+/// The first character of the text, and what follows it.
+pub(crate) fn first_char(text: &str) -> Option<(char, &str)>
+    ensures { MatchOption result (chars text.now ≡ []) (λ parts. chars text.now ≡ parts.0 ∷ chars parts.1.now) }
+{
+    let mut cursor = text.chars();
+    let first = cursor.next()?;
+    Some((first, cursor.as_str()))
+}
+
+/// The front of the text that ends where the rest begins.
+pub(crate) fn front<'t>(text: &'t str, rest: &str) -> &'t str
+    requires { (front : List ℕ) × (chars text.now ≡ front ++ chars rest.now) }
+    ensures bytes { (front : List ℕ) → chars text.now ≡ front ++ chars rest.now → result.now ≡ encode_utf8_all front }
+    ensures characters { (front : List ℕ) → chars text.now ≡ front ++ chars rest.now → chars result.now ≡ front }
+{
+    let (front, _) = text.split_at(text.len() - rest.len());
+    front
+}
 
 /// What a run is made of.
 #[derive(Drop, Clone, Copy)]
