@@ -6,3 +6,5 @@ pub mod StartLemmas
 pub mod CommentLemmas
 pub mod ValueLemmas
 pub mod PieceLemmas
+pub mod CutLemmas
+pub mod LexLemmas

@@ -181,7 +181,7 @@ no_empty_piece (Some Number) rest h = omega (arith, h.1)
 no_empty_piece (Some Literal) rest h = literal_nonempty h.width h.value _ h.spelled h.is_width
 no_empty_piece (Some Sign) rest h = cc
 
-literal_start : (c : ℕ) (cs rest : List ℕ) → IsLiteral (c ∷ cs) rest → start_of c ≡ Digit
+pub literal_start : (c : ℕ) (cs rest : List ℕ) → IsLiteral (c ∷ cs) rest → start_of c ≡ Digit
 literal_start c cs rest h = literal_head c cs h.width h.value _ h.spelled h.is_width
 
 pub space_piece_start : (c : ℕ) (cs : List ℕ) → IsSpace (c ∷ cs) → start_of c ≡ Space

@@ -66,3 +66,7 @@ front_chars bs rest cs u v e =
     let split : front ++ rest ≡ bs = ap (λ l. l ++ rest) (front_bytes bs rest cs u v e) ∙ sym (bytes_before bs rest cs u v e) in
     append_cancel_right (chars front) cs (chars rest)
     (sym (chars-append front rest (IsUtf8-take bs (length bs - length rest) u at)) ∙ ap chars split ∙ e)
+
+-- a text with a byte has a character
+pub chars_some : (bs : List ℕ) → IsUtf8 bs → (length bs ≡ 0 → ⊥) → chars bs ≡ [] → ⊥
+chars_some bs u some none = some (ap length (sym (encodes-chars bs u) ∙ ap encode_utf8_all none))

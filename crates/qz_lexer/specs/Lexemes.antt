@@ -20,15 +20,16 @@ lexeme token = record { kind = token.kind; text = token.text.now; offset = token
 abbrev pub byte_count : List ℕ → ℕ
 byte_count text = length (encode_utf8_all text)
 
--- the token that a piece at the offset is, if it is one
+-- the token that bytes at the offset are, if they are of a kind
 abbrev pub lexeme_at : ℕ → Option TokenKind → List ℕ → List Lexeme
-lexeme_at offset None text = []
-lexeme_at offset (Some kind) text = record { kind = kind; text = encode_utf8_all text; offset = offset } ∷ []
+lexeme_at offset None bytes = []
+lexeme_at offset (Some kind) bytes = record { kind = kind; text = bytes; offset = offset } ∷ []
 
 -- the tokens among the pieces, of which the first begins at the offset
 abbrev pub lexemes : ℕ → List Piece → List Lexeme
 lexemes offset [] = []
-lexemes offset (piece ∷ pieces) = lexeme_at offset piece.kind piece.text ++ lexemes (offset + byte_count piece.text) pieces
+lexemes offset (piece ∷ pieces) =
+    lexeme_at offset piece.kind (encode_utf8_all piece.text) ++ lexemes (offset + byte_count piece.text) pieces
 
 -- The outcome of a text: where it is all pieces, the tokens among them, and otherwise how many bytes the
 -- pieces take before the first place where none begins.
@@ -42,3 +43,7 @@ abbrev pub outcome_of : {X : Type 0} → (X → List Token) → Result X LexFaul
 outcome_of tokens (Ok x) = Some (Ok (map lexeme (tokens x)))
 outcome_of tokens (Err (At offset)) = Some (Err offset)
 outcome_of tokens (Err Memory) = None
+
+-- a text has one outcome: the pieces that it begins with are determined, and their kinds
+abbrev pub HasOneOutcome : List ℕ → Type 0
+HasOneOutcome text = (a b : Result (List Lexeme) ℕ) → Lexes text a → Lexes text b → a ≡ b

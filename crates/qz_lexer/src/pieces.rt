@@ -7,14 +7,14 @@ ghost use Rattle.qz_lexer.specs.Starts.{StartsWith};
 ghost use Rattle.qz_lexer.specs.declared.starts.Start.TheVariants.{Digit, Slash, Letter, Other};
 
 use crate::comments::comment;
-use crate::runs::{Run, first_char, front};
+use crate::runs::{Run, first_char, text_before};
 use crate::starts::Start;
 use crate::tokens::TokenKind;
 use crate::words::{is_double_sign, is_reserved, is_single_sign};
 use crate::values::value;
 
 /// The longest piece that begins a text.
-#[derive(Drop)]
+#[derive(Drop, Clone, Copy)]
 pub(crate) struct Front<'t> {
     /// `None` for white space and comments.
     pub kind: Option<TokenKind>,
@@ -75,7 +75,7 @@ fn word(text: &str) -> Option<Front<'_>>
     if count > 64 {
         return None;
     }
-    let kind = if is_reserved(front(text, after)) {
+    let kind = if is_reserved(text_before(text, after)) {
         TokenKind::Keyword
     } else {
         TokenKind::Name

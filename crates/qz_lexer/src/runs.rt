@@ -16,7 +16,7 @@ pub(crate) fn first_char(text: &str) -> Option<(char, &str)>
 }
 
 /// The front of the text that ends where the rest begins.
-pub(crate) fn front<'t>(text: &'t str, rest: &str) -> &'t str
+pub(crate) fn text_before<'t>(text: &'t str, rest: &str) -> &'t str
     requires { (front : List ℕ) × (chars text.now ≡ front ++ chars rest.now) }
     ensures bytes { (front : List ℕ) → chars text.now ≡ front ++ chars rest.now → result.now ≡ encode_utf8_all front }
     ensures characters { (front : List ℕ) → chars text.now ≡ front ++ chars rest.now → chars result.now ≡ front }

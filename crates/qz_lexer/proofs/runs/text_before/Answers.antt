@@ -1,7 +1,7 @@
 use Rattle.std.proofs.Common.{◌≡◌, ℕ, ◌+◌, ◌-◌, ◌≤◌, List, ◌++◌, length, sym, refl, ap, ◌∙◌, subst, arith, IsUtf8, encode_utf8_all, length-append}
 use Rattle.std.specs.Str.{chars, IsCharBoundary}
 use Rattle.qz_lexer.proofs.TextLemmas.{bytes_before, seam, front_bytes, front_chars}
-use Rattle.qz_lexer.proofs.runs.front.Goals as goal
+use Rattle.qz_lexer.proofs.runs.text_before.Goals as goal
 
 pub overflow_sub-text : goal.overflow_sub-text
 overflow_sub-text c =
