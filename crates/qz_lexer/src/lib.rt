@@ -14,3 +14,6 @@ mod words;
 pub use faults::LexFault;
 pub use lexer::lex;
 pub use tokens::{Token, TokenKind};
+
+#[cfg(test)]
+mod tests;
