@@ -1,0 +1,7 @@
+pub mod Runs
+pub mod Fronts
+pub mod Words
+pub mod Blanks
+pub mod Pieces
+pub mod Starts
+pub mod Lexemes

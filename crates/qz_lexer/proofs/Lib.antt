@@ -1,0 +1,10 @@
+pub mod ListLemmas
+pub mod TextLemmas
+pub mod RunLemmas
+pub mod WordLemmas
+pub mod StartLemmas
+pub mod CommentLemmas
+pub mod ValueLemmas
+pub mod PieceLemmas
+pub mod CutLemmas
+pub mod LexLemmas

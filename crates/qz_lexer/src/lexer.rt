@@ -1,0 +1,59 @@
+//! From a text to its tokens.
+
+ghost use Rattle.std.specs.Prelude.{◌≡◌, ℕ, ◌≤◌, List, ◌++◌, map, length, Result, IfSome, IfErr, OnOk};
+ghost use Rattle.std.specs.Str.{chars};
+ghost use Rattle.qz_lexer.specs.Lexemes.{Lexeme, lexeme, lexeme_at, Lexes, HasOneOutcome, outcome_of};
+
+use crate::faults::LexFault;
+use crate::pieces::first_piece;
+use crate::runs::text_before;
+use crate::tokens::{Token, TokenKind};
+use std::alloc::Global;
+
+/// The tokens of the text.
+pub fn lex<'t>(alloc: Global, text: &'t str) -> Result<Vec<Token<'t>>, LexFault>
+    requires { length text.now ≤ 1048576 }
+    // What is returned, but for want of memory, is the text's outcome.
+    ensures found { IfSome (outcome_of (λ tokens. tokens.items) result) (λ outcome. Lexes (chars text.now) outcome) }
+    // What is the text's outcome is returned, but for want of memory.
+    ensures only { (outcome : Result (List Lexeme) ℕ) → Lexes (chars text.now) outcome →
+        IfSome (outcome_of (λ tokens. tokens.items) result) (λ told. told ≡ outcome) }
+{
+    let mut tokens = Vec::new(alloc);
+    let mut rest = text;
+    while !rest.is_empty() {
+        let offset = (text.len() - rest.len()) as u32;
+        let Some(front) = first_piece(rest) else {
+            return Err(LexFault::At { offset });
+        };
+        let piece = text_before(rest, front.after);
+        keep(&mut tokens, front.kind, piece, offset)?;
+        rest = front.after;
+    }
+    Ok(tokens)
+}
+
+/// Adds the token that the piece is, if it is of a kind.
+fn keep<'t>(
+    tokens: &mut Vec<Token<'t>>,
+    kind: Option<TokenKind>,
+    text: &'t str,
+    offset: u32,
+) -> Result<(), LexFault>
+    ensures ok { OnOk result (map lexeme tokens.new.items ≡ map lexeme tokens.old.items ++ lexeme_at offset kind text.now) }
+    ensures err { IfErr result (λ fault. fault ≡ LexFault.Memory) }
+{
+    match kind {
+        Some(kind) => {
+            tokens.push(Token { kind, text, offset })?;
+            Ok(())
+        }
+        None => Ok(()),
+    }
+}
+
+/// A text has one outcome: one list of tokens, or one offset where no piece begins.
+pub fn one_outcome()
+    ensures { (text : List ℕ) → HasOneOutcome text }
+{
+}
