@@ -1,0 +1,4 @@
+pub mod Walking
+pub mod Resting
+pub mod Evaluating
+mod EmitsAlways

@@ -1,0 +1,63 @@
+-- Small programs, and what the definitions give for them.
+use Rattle.std.specs.Prelude.{ℕ, ◌≡◌, List, [], ◌∷◌, Option, None, true, false}
+use Rattle.qz_values.specs.declared.Ty.TheVariants as ty
+use Rattle.qz_values.specs.declared.Know.{Know}
+use Rattle.qz_values.specs.declared.Know.TheVariants.{Known}
+use Rattle.qz_values.specs.Values.{yes, no}
+use Rattle.qz_syntax.specs.declared.declarations.Class.TheVariants.{Event, Mem}
+use Rattle.qz_syntax.specs.declared.declarations.Dir.TheVariants as dir
+use Rattle.qz_syntax.specs.declared.declarations.Formal.{Formal}
+use Rattle.qz_syntax.specs.declared.declarations.Decl.{Decl}
+use Rattle.qz_syntax.specs.declared.expressions.Var.TheVariants as var
+use Rattle.qz_syntax.specs.declared.expressions.Expr.{Expr}
+use Rattle.qz_syntax.specs.declared.expressions.Expr.TheVariants as expr
+use Rattle.qz_syntax.specs.declared.statements.Stmt.{Stmt}
+use Rattle.qz_syntax.specs.declared.statements.Stmt.TheVariants as stmt
+use Rattle.qz_syntax.specs.declared.modules.Module.{Module}
+use Rattle.qz_syntax.specs.declared.places.Place.TheVariants as place
+use Rattle.qz_syntax.specs.declared.places.Residual.TheVariants as residual
+use Rattle.qz_meaning.specs.Scenes.{new_store}
+use Rattle.qz_meaning.specs.Programs.{Program, program_of}
+use Rattle.qz_meaning.specs.Settling.{Configuration}
+use Rattle.qz_meaning.specs.MacroSteps.{initial, IsStep}
+
+abbrev pub event_output : Formal
+event_output = record { class = Event; dir = dir.Out; ty = ty.Bool; name = [] }
+
+abbrev pub event_input : Formal
+event_input = record { class = Event; dir = dir.In; ty = ty.Bool; name = [] }
+
+abbrev pub always : Expr
+always = expr.Lit yes
+
+abbrev pub emit : ℕ → Stmt
+emit n = stmt.Assign (var.Formal n) always
+
+-- a module of events without labels, whose name and formals' names have no part in what it means
+abbrev pub program : List Formal → List Decl → List (Option (List ℕ)) → ℕ → Stmt → Program
+program formals decls labels loops body = program_of (record {
+  name = [];
+  formals = formals;
+  decls = decls;
+  labels = labels;
+  loops = loops;
+  calls = 0;
+  body = body;
+})
+
+-- `loop { emit o; pause; }`
+abbrev pub always_emitted : Program
+always_emitted =
+    program (event_output ∷ []) [] (None ∷ []) 1 (stmt.Loop 0 (stmt.Seq (emit 0 ∷ stmt.Pause 0 ∷ [])) always)
+
+-- control rests at the pause
+abbrev pub at_its_pause : Configuration
+at_its_pause = record {
+  place = place.Rest (residual.InBody (residual.InSeq 1 (residual.At 0)));
+  outputs = new_store ty.Bool ∷ [];
+}
+
+-- it emits in its first step, and in each later one, and comes back to the pause
+pub record EmitsAlways : Type 0 where
+  pub first : IsStep always_emitted (initial always_emitted) [] (yes ∷ []) at_its_pause
+  pub again : IsStep always_emitted at_its_pause [] (yes ∷ []) at_its_pause

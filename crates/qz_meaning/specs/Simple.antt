@@ -1,0 +1,37 @@
+-- Statements without parts: nothing, assignments and pauses.
+use Rattle.std.specs.Prelude.{ℕ, Bool, true, false, ◌==◌, List, [], ◌∷◌, Option, Some, None}
+use Rattle.qz_values.specs.declared.Know.{Know}
+use Rattle.qz_values.specs.declared.Know.TheVariants.{Known}
+use Rattle.qz_values.specs.Values.{yes, no}
+use Rattle.qz_syntax.specs.declared.expressions.Var.{Var}
+use Rattle.qz_syntax.specs.declared.expressions.Expr.{Expr}
+use Rattle.qz_syntax.specs.declared.places.Residual.{Residual, out-Residual}
+use Rattle.qz_syntax.specs.declared.places.Residual.TheOpen.{Residual-F}
+use Rattle.qz_syntax.specs.declared.places.Residual.TheVariants.{At}
+use Rattle.qz_meaning.specs.Scenes.{Scene, Context, instance_here}
+use Rattle.qz_meaning.specs.Expressions.{value_here}
+use Rattle.qz_meaning.specs.Behaviors.{Write, Behavior, idle}
+
+-- `x = e` or `next(x) = e`: one write under the guard; it ends at once
+abbrev pub assignment : Scene → Bool → Var → Expr → Behavior
+assignment scene delayed target value = record idle {
+  start = λ ctx g m. record {
+    target = instance_here ctx target;
+    delayed = delayed;
+    guard = g;
+    value = value_here scene ctx value;
+  } ∷ [];
+}
+
+abbrev pub is_at_in : ℕ → Residual-F Residual → Bool
+is_at_in place (Residual-F.At other) = place == other
+is_at_in place other = false
+
+-- `pause`: control rests here, and it ends when it is resumed
+abbrev pub pause : ℕ → Behavior
+pause place = record idle {
+  ends = λ ctx m. Known no;
+  ended = λ ctx r. Known yes;
+  rest = λ ctx m. Some (At place);
+  fits = λ r. is_at_in place (out-Residual r);
+}

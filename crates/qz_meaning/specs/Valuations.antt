@@ -1,0 +1,150 @@
+-- Permitted valuations: every place that the syntax permits, with every store and every input; and their
+-- order, which is that of lists of bits.
+use Rattle.std.specs.Prelude.{ℕ, ◌≡◌, ◌+◌, ◌*◌, ◌/◌, ◌%◌, ◌^◌, Bool, true, false, ◌==◌, ◌&&◌, ◌||◌, not, nat_lt, IsTrue, List, [], ◌∷◌, ◌++◌, map, length, Option, Some, None, is_some, if◌then◌else◌}
+use Rattle.std.specs.Option.{option_map_or}
+use Rattle.std.specs.List.{zip, list_all, list_any, flat_map, range_with_len, concat}
+use Rattle.qz_values.specs.declared.Ty.{Ty}
+use Rattle.qz_values.specs.declared.Value.{Value}
+use Rattle.qz_values.specs.Types.{width_of, is_same_type}
+use Rattle.qz_values.specs.Values.{type_of, bits_of}
+use Rattle.qz_syntax.specs.declared.declarations.Class.{Class}
+use Rattle.qz_syntax.specs.declared.declarations.Class.TheVariants.{Event, Mem}
+use Rattle.qz_syntax.specs.declared.expressions.Var.{Var}
+use Rattle.qz_syntax.specs.declared.expressions.Var.TheVariants as var
+use Rattle.qz_syntax.specs.declared.places.Store.{Store}
+use Rattle.qz_syntax.specs.declared.places.Residual.{Residual}
+use Rattle.qz_syntax.specs.declared.places.Residual.TheOpen.{Residual-F}
+use Rattle.qz_syntax.specs.declared.places.Residual.TheFolds.{fold-Residual}
+use Rattle.qz_syntax.specs.declared.places.Place.{Place}
+use Rattle.qz_syntax.specs.declared.places.Place.TheVariants as place
+use Rattle.qz_meaning.specs.Scenes.{contains, new_store}
+use Rattle.qz_meaning.specs.Behaviors.{Behavior}
+use Rattle.qz_meaning.specs.Programs.{Program}
+use Rattle.qz_meaning.specs.Settling.{Configuration, Environment, body_under}
+use Rattle.qz_meaning.specs.Rounds.{first_round}
+use Rattle.qz_meaning.specs.MacroSteps.{initial}
+
+-- a configuration and a row of inputs
+pub record Valuation : Type 0 where
+  pub configuration : Configuration
+  pub inputs : List Value
+
+abbrev pub node_places : Residual-F (List ℕ) → List ℕ
+node_places (Residual-F.At place) = place ∷ []
+node_places (Residual-F.Hold place) = place ∷ []
+node_places (Residual-F.InSeq member inside) = inside
+node_places (Residual-F.InPar branches) = flat_map (λ branch. option_map_or (λ places. places) branch []) branches
+node_places (Residual-F.InIf side inside) = inside
+node_places (Residual-F.InBody inside) = inside
+node_places (Residual-F.InScope stores inside) = inside
+node_places (Residual-F.InCall number) = []
+
+-- the numbers of the places where control rests
+abbrev pub resting_places : Residual → List ℕ
+resting_places = fold-Residual (List ℕ) node_places
+
+-- a value of this type
+abbrev pub is_of_type : Ty → Value → Bool
+is_of_type t v = is_same_type (type_of v) t && nat_lt (bits_of v) (2 ^ width_of t)
+
+-- an event without mark has its default
+abbrev pub is_kept_by : Class → Value → Bool
+is_kept_by Event v = bits_of v == 0
+is_kept_by Mem v = true
+
+-- a store that a variable can have: any value of its type, with a mark only where some `next` is applied to it
+abbrev pub is_store_of : Program → Var → Store → Bool
+is_store_of p variable store =
+    is_of_type (p.type_of variable) store.value
+    && (if store.pending then p.is_delayed variable else is_kept_by (p.class_of variable) store.value)
+
+abbrev pub are_output_stores : Program → List ℕ → List Store → Bool
+are_output_stores p [] [] = true
+are_output_stores p [] (store ∷ stores) = false
+are_output_stores p (n ∷ numbers) [] = false
+are_output_stores p (n ∷ numbers) (store ∷ stores) = is_store_of p (var.Formal n) store && are_output_stores p numbers stores
+
+abbrev pub are_local_stores : Program → List (ℕ × Store) → Bool
+are_local_stores p stores = list_all (λ (one : ℕ × Store). is_store_of p (var.Local one.0) one.1) stores
+
+abbrev pub are_inputs : Program → List ℕ → List Value → Bool
+are_inputs p [] [] = true
+are_inputs p [] (v ∷ values) = false
+are_inputs p (n ∷ numbers) [] = false
+are_inputs p (n ∷ numbers) (v ∷ values) = is_of_type (p.type_of (var.Formal n)) v && are_inputs p numbers values
+
+-- places and the stores of their locals don't depend on what is known
+abbrev pub shape_of : Program → Behavior
+shape_of p = body_under p (first_round p [])
+
+-- a configuration that is permitted: not started with the initial stores, or any place that fits, or the
+-- end, with any stores
+abbrev pub IsPermittedPlace : Program → Configuration → Place → Type 0
+IsPermittedPlace p c place.NotStarted = c ≡ initial p
+IsPermittedPlace p c (place.Rest r) =
+    IsTrue ((shape_of p).fits r && (are_local_stores p ((shape_of p).stores_at r) && are_output_stores p p.outputs c.outputs))
+IsPermittedPlace p c place.Ended = IsTrue (are_output_stores p p.outputs c.outputs)
+
+pub record IsPermitted (p : Program) (v : Valuation) : Type 0 where
+  pub place : IsPermittedPlace p v.configuration v.configuration.place
+  pub inputs : IsTrue (are_inputs p p.inputs v.inputs)
+
+abbrev pub is_started : Place → Bool
+is_started place.NotStarted = false
+is_started (place.Rest r) = true
+is_started place.Ended = true
+
+-- whether control rests at a place
+abbrev pub rests_at : Place → ℕ → Bool
+rests_at place.NotStarted n = false
+rests_at (place.Rest r) n = contains (resting_places r) n
+rests_at place.Ended n = false
+
+abbrev pub stores_at_place : Program → Place → List (ℕ × Store)
+stores_at_place p place.NotStarted = []
+stores_at_place p (place.Rest r) = (shape_of p).stores_at r
+stores_at_place p place.Ended = []
+
+abbrev pub store_among : List (ℕ × Store) → ℕ → Option Store
+store_among [] n = None
+store_among (one ∷ others) n = if one.0 == n then Some one.1 else store_among others n
+
+-- the stores in instance order: the outputs', and each local's where it exists
+abbrev pub stores_in_order : Program → Configuration → List (Option Store)
+stores_in_order p c =
+    map (λ store. Some store) c.outputs
+    ++ map (λ n. store_among (stores_at_place p c.place) n) (range_with_len 0 p.locals)
+
+-- bit j of a number
+abbrev pub is_set : ℕ → ℕ → Bool
+is_set j n = (n / 2 ^ j) % 2 == 1
+
+-- a variable's bits in the group of j: its mark, in the first group alone, and bit j of its value
+abbrev pub store_bits : ℕ → Option Store → List Bool
+store_bits j None = (if j == 0 then false ∷ false ∷ [] else false ∷ [])
+store_bits j (Some store) =
+    if j == 0 then store.pending ∷ is_set j (bits_of store.value) ∷ [] else is_set j (bits_of store.value) ∷ []
+
+-- all bits of a group: the variables', and then the inputs'
+abbrev pub group_bits : ℕ → List (Option Store) → List Value → List Bool
+group_bits j stores inputs = flat_map (λ store. store_bits j store) stores ++ map (λ v. is_set j (bits_of v)) inputs
+
+-- the list of bits: whether it is started, whether control rests at each place in tree order, and the
+-- groups from bit 0 to bit 63
+abbrev pub bits_of_valuation : Program → Valuation → List Bool
+bits_of_valuation p v =
+    is_started v.configuration.place ∷ map (rests_at v.configuration.place) p.places
+    ++ flat_map (λ j. group_bits j (stores_in_order p v.configuration) v.inputs) (range_with_len 0 64)
+
+-- false comes before true, and the first difference decides
+abbrev pub is_before : List Bool → List Bool → Bool
+is_before [] bits = false
+is_before (bit ∷ bits) [] = false
+is_before (false ∷ bits) (false ∷ others) = is_before bits others
+is_before (false ∷ bits) (true ∷ others) = true
+is_before (true ∷ bits) (false ∷ others) = false
+is_before (true ∷ bits) (true ∷ others) = is_before bits others
+
+-- the order of valuations
+abbrev pub ComesBefore : Program → Valuation → Valuation → Type 0
+ComesBefore p v w = IsTrue (is_before (bits_of_valuation p v) (bits_of_valuation p w))
