@@ -74,7 +74,7 @@ impl Model for Name {
 impl Name {
     /// The name with this text, or `None` where the text is no name.
     pub fn new(alloc: Global, text: &str) -> Result<Option<Name>, AllocError>
-        ensures { IfOk result (λ name. MatchOption name (is_name (chars text.now) ≡ false) (λ n. n ≡ chars text.now)) }
+        ensures { IfOk result (λ name. MatchOption name (is_name (chars text.now) ≡ false) (λ n. (n ≡ chars text.now) × IsName n)) }
     {
         if !is_name(text) {
             return Ok(None);
