@@ -4,3 +4,4 @@ pub mod SizeLemmas
 pub mod SpellingLemmas
 pub mod Fusion
 pub mod EndingLemmas
+pub mod NumberLemmas

@@ -54,7 +54,7 @@ const LONGEST: usize = 64;
 
 /// A name of the language: 1 to 64 characters, the first with `XID_Start` and each later one with
 /// `XID_Continue` (Unicode Standard Annex 31), and no reserved word.
-#[derive(Debug, Drop)]
+#[derive(Clone, Debug, Drop)]
 pub struct Name {
     text: String,
 }
@@ -167,7 +167,7 @@ fn is_among(words: &[&str], text: &str) -> bool
 }
 
 /// A text, seen as the list of its bytes.
-#[derive(Debug, Drop)]
+#[derive(Clone, Debug, Drop)]
 pub struct Text {
     text: String,
 }
