@@ -38,3 +38,12 @@ words_as_characters (word ∷ words) text a u =
 pub reserved_as_characters : (text : List ℕ) → IsUtf8 text → list_any (λ word. bytes_eq word text) reserved_words ≡ is_reserved (chars text)
 unfolding reserved_words
 reserved_as_characters text u = words_as_characters reserved_words text refl u
+
+-- two texts are one exactly where their characters are
+pub texts_as_characters : (xs ys : List ℕ) → IsUtf8 xs → IsUtf8 ys → bytes_eq xs ys ≡ bytes_eq (chars xs) (chars ys)
+texts_as_characters xs ys u v =
+    let d : Decides (bytes_eq (chars xs) (chars ys)) (xs ≡ ys) = (
+      λ h. sym (encodes-chars xs u) ∙ ap encodes ((bytes_eq-Decides (chars xs) (chars ys)).0 h) ∙ encodes-chars ys v,
+      λ e. (bytes_eq-Decides (chars xs) (chars ys)).1 (ap chars e),
+    ) in
+    same_from_decides _ _ (bytes_eq-Decides xs ys) d

@@ -16,6 +16,8 @@ mod places;
 mod refusals;
 mod sizes;
 mod statements;
+#[cfg(test)]
+mod tests;
 
 pub use declarations::{Class, Decl, Dir, Formal, Port, Proto};
 pub use expressions::{Expr, Var};

@@ -1,12 +1,16 @@
 //! Names of modules, variables and labels, and texts made of them.
 
-ghost use Rattle.std.specs.Prelude.{◌≡◌, IfOk, MatchOption, false, length, string_bytes};
+ghost use Rattle.std.specs.Prelude.{◌≡◌, IfOk, MatchOption, false, length, string_bytes, encode_utf8_all};
 ghost use Rattle.std.specs.Str.{bytes_eq, chars};
 ghost use Rattle.std.specs.List.{list_all, list_any};
+ghost use Rattle.std.specs.Hash as fed;
+ghost use Rattle.std.specs.Cmp.Rules.{comparing, hashing};
+ghost use Rattle.std.proofs.Common.{rules};
 ghost use Rattle.unicode_ident.specs.Ident.{is_xid_continue};
 ghost use Rattle.qz_syntax.specs.Spelling.{is_reserved, is_spelled, is_name, IsName};
 
 use std::alloc::{AllocError, Global};
+use std::hash::{Hash, Hasher};
 use std::marker::Model;
 use unicode_ident::{is_xid_continue, is_xid_start};
 
@@ -50,7 +54,7 @@ const LONGEST: usize = 64;
 
 /// A name of the language: 1 to 64 characters, the first with `XID_Start` and each later one with
 /// `XID_Continue` (Unicode Standard Annex 31), and no reserved word.
-#[derive(Debug, Drop)]
+#[derive(Clone, Debug, Drop)]
 pub struct Name {
     text: String,
 }
@@ -70,7 +74,7 @@ impl Model for Name {
 impl Name {
     /// The name with this text, or `None` where the text is no name.
     pub fn new(alloc: Global, text: &str) -> Result<Option<Name>, AllocError>
-        ensures { IfOk result (λ name. MatchOption name (is_name (chars text.now) ≡ false) (λ n. n ≡ chars text.now)) }
+        ensures { IfOk result (λ name. MatchOption name (is_name (chars text.now) ≡ false) (λ n. (n ≡ chars text.now) × IsName n)) }
     {
         if !is_name(text) {
             return Ok(None);
@@ -86,6 +90,31 @@ impl Name {
         ensures name { IsName self.now }
     {
         self.text.as_str()
+    }
+}
+
+/// Names are compared character by character, without normalising.
+impl PartialEq for Name {
+    ghost eq = { bytes_eq };
+
+    ghost laws = { Prim.search (comparing, rules) };
+
+    fn eq(&self, other: &Name) -> bool {
+        self.text.as_str() == other.text.as_str()
+    }
+}
+
+impl Eq for Name {
+    ghost laws = { Prim.search (comparing, rules) };
+}
+
+impl Hash for Name {
+    ghost hash_input = { λ n. fed.str (encode_utf8_all n) };
+
+    ghost respects_eq = { Prim.search (hashing, rules) };
+
+    fn hash<H: Hasher>(&self, state: &mut H) {
+        self.text.as_str().hash(state);
     }
 }
 
@@ -138,7 +167,7 @@ fn is_among(words: &[&str], text: &str) -> bool
 }
 
 /// A text, seen as the list of its bytes.
-#[derive(Debug, Drop)]
+#[derive(Clone, Debug, Drop)]
 pub struct Text {
     text: String,
 }
