@@ -10,7 +10,15 @@ use crate::runs::text_before;
 use crate::tokens::{Token, TokenKind};
 use std::alloc::Global;
 
-/// The tokens of the text.
+/// The tokens of the text, in order. The text has at most 1 MiB (1048576 bytes).
+///
+/// Answers `At` with the offset in bytes of the first place where no token, white space or comment begins after
+/// those before it, and `Memory` where memory ran out.
+///
+/// It takes time linear in the text's length. It goes over the text once and copies nothing of it: no run and no
+/// comment is read twice. A literal goes on from the end of its first number. A word is sought among the reserved
+/// ones after its end was found, in a bounded number of steps. Only where what follows `'d` is no number has the
+/// lexer looked past the end of a token, and then it stops at that `'`.
 pub fn lex<'t>(alloc: Global, text: &'t str) -> Result<Vec<Token<'t>>, LexFault>
     requires { length text.now ≤ 1048576 }
     // What is returned, but for want of memory, is the text's outcome.
@@ -22,7 +30,7 @@ pub fn lex<'t>(alloc: Global, text: &'t str) -> Result<Vec<Token<'t>>, LexFault>
     let mut tokens = Vec::new(alloc);
     let mut rest = text;
     while !rest.is_empty() {
-        let offset = (text.len() - rest.len()) as u32;
+        let offset = text_before(text, rest).len() as u32;
         let Some(front) = first_piece(rest) else {
             return Err(LexFault::At { offset });
         };
@@ -55,5 +63,4 @@ fn keep<'t>(
 /// A text has one outcome: one list of tokens, or one offset where no piece begins.
 pub fn one_outcome()
     ensures { (text : List ℕ) → HasOneOutcome text }
-{
-}
+{}

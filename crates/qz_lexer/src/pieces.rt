@@ -10,8 +10,8 @@ use crate::comments::comment;
 use crate::runs::{Run, first_char, text_before};
 use crate::starts::Start;
 use crate::tokens::TokenKind;
-use crate::words::{is_double_sign, is_reserved, is_single_sign};
 use crate::values::value;
+use crate::words::{is_double_sign, is_reserved, is_single_sign};
 
 /// The longest piece that begins a text.
 #[derive(Drop, Clone, Copy)]

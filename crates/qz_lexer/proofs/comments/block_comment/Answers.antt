@@ -1,4 +1,4 @@
-use Rattle.std.proofs.Common.{◌≡◌, ◌∷◌, ap, sym, ◌∙◌, lit<, drop, subst, IsUtf8}
+use Rattle.std.proofs.Common.{◌≡◌, ◌∷◌, ap, sym, ◌∙◌, lit<, subst}
 use Rattle.std.specs.Str.{chars}
 use Rattle.qz_lexer.proofs.TextLemmas.{chars_two, not_two, utf8_past_two}
 use Rattle.qz_lexer.specs.Fronts.{Takes}
