@@ -1,8 +1,8 @@
 //! From a text to its tokens.
 
-ghost use Rattle.std.specs.Prelude.{◌≡◌, ℕ, ◌≤◌, List, ◌++◌, map, length, Result, IfSome, IfErr, OnOk};
+ghost use Rattle.std.specs.Prelude.{◌≡◌, ℕ, ◌≤◌, List, ◌++◌, map, length, Result, All, IfSome, IfOk, IfErr, OnOk};
 ghost use Rattle.std.specs.Str.{chars};
-ghost use Rattle.qz_lexer.specs.Lexemes.{Lexeme, lexeme, lexeme_at, Lexes, HasOneOutcome, outcome_of};
+ghost use Rattle.qz_lexer.specs.Lexemes.{Lexeme, lexeme, lexeme_at, Lexes, HasOneOutcome, IsSliceOf, outcome_of};
 
 use crate::faults::LexFault;
 use crate::pieces::first_piece;
@@ -26,6 +26,7 @@ pub fn lex<'t>(alloc: Global, text: &'t str) -> Result<Vec<Token<'t>>, LexFault>
     // What is the text's outcome is returned, but for want of memory.
     ensures only { (outcome : Result (List Lexeme) ℕ) → Lexes (chars text.now) outcome →
         IfSome (outcome_of (λ tokens. tokens.items) result) (λ told. told ≡ outcome) }
+    ensures slices { IfOk result (λ tokens. All (IsSliceOf text.now) (map lexeme tokens.items)) }
 {
     let mut tokens = Vec::new(alloc);
     let mut rest = text;
@@ -60,7 +61,7 @@ fn keep<'t>(
     }
 }
 
-/// A text has one outcome: one list of tokens, or one offset where no piece begins.
+/// A text has exactly one outcome: its list of tokens, or the offset where no piece begins.
 pub fn one_outcome()
     ensures { (text : List ℕ) → HasOneOutcome text }
 {}

@@ -1,9 +1,7 @@
 //! The piece that a text begins with: a token, white space or a comment.
 
 ghost use Rattle.std.specs.Str.{chars};
-ghost use Rattle.qz_lexer.specs.Fronts.{Takes, Lacks};
-ghost use Rattle.qz_lexer.specs.Pieces.{Finds};
-ghost use Rattle.qz_lexer.specs.Starts.{StartsWith};
+ghost use Rattle.qz_lexer.specs.Starts.{StartsWith, Finds};
 ghost use Rattle.qz_lexer.specs.declared.starts.Start.TheVariants.{Digit, Slash, Letter, Other};
 
 use crate::comments::comment;

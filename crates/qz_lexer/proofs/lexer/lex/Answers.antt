@@ -3,6 +3,7 @@ use Rattle.std.specs.Str.{chars}
 use Rattle.std.proofs.lemmas.Bool.{eqb-true, eqb-false}
 use Rattle.qz_lexer.specs.Lexemes.{lexeme, lexeme_at, Lexes}
 use Rattle.qz_lexer.proofs.TextLemmas.{chars_empty, chars_some}
+use Rattle.qz_lexer.proofs.SliceLemmas.{tokens_are_slices}
 use Rattle.qz_lexer.proofs.CutLemmas.{lexes_same}
 use Rattle.qz_lexer.proofs.LexLemmas.{texts, split_so_far, cut_more, cut_all, cut_stuck, piece_shortens}
 use Rattle.qz_lexer.proofs.lexer.lex.Goals as goal
@@ -50,3 +51,6 @@ returns-clause-found c = tokens c
 
 pub returns-clause-only : goal.returns-clause-only
 returns-clause-only c outcome other = lexes_same _ _ _ (tokens c) other
+
+pub returns-clause-slices : goal.returns-clause-slices
+returns-clause-slices c = tokens_are_slices c.args.text.now _ c.utf8.text (tokens c)
