@@ -4,8 +4,7 @@ use Rattle.std.specs.Str.{chars, IsCharBoundary}
 use Rattle.std.proofs.Math.Seq.{drop-append_seam}
 use Rattle.std.proofs.lemmas.Bool.{cases_lt}
 use Rattle.std.proofs.lemmas.Str.{IsUtf8-take, IsUtf8-drop, IsCharBoundary-before_ascii, chars-append, length-le-encodes}
-use Rattle.qz_lexer.specs.Runs.{Skips, is_of_line}
-use Rattle.qz_lexer.specs.Fronts.{Takes, Lacks}
+use Rattle.qz_lexer.specs.Runs.{Takes, Lacks, Skips, is_of_line}
 use Rattle.qz_lexer.specs.Blanks.{IsLineComment, IsBlockComment}
 use Rattle.qz_lexer.proofs.ListLemmas.{longer_front}
 use Rattle.qz_lexer.proofs.TextLemmas.{bytes_split, chars_two, encodes_two}

@@ -8,8 +8,7 @@ use Rattle.qz_lexer.specs.declared.starts.Start.{Start}
 use Rattle.qz_lexer.specs.declared.starts.Start.TheVariants.{Space, Digit, Slash, Letter, Other}
 use Rattle.qz_lexer.specs.declared.tokens.TokenKind.{TokenKind}
 use Rattle.qz_lexer.specs.declared.tokens.TokenKind.TheVariants.{Name, Keyword, Number, Literal, Sign}
-use Rattle.qz_lexer.specs.Runs.{Skips, is_of_line}
-use Rattle.qz_lexer.specs.Fronts.{Takes, Lacks}
+use Rattle.qz_lexer.specs.Runs.{Takes, Lacks, Skips, is_of_line}
 use Rattle.qz_lexer.specs.Blanks.{IsComment, IsBlockComment, line, block}
 use Rattle.qz_lexer.specs.Words.{IsValue, is_reserved, is_single_sign, is_double_sign}
 use Rattle.qz_lexer.specs.Starts.{start_of}

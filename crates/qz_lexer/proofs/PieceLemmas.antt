@@ -8,8 +8,7 @@ use Rattle.qz_lexer.specs.declared.starts.Start.TheVariants.{Space, Digit, Slash
 use Rattle.qz_lexer.specs.declared.tokens.TokenKind.{TokenKind}
 use Rattle.qz_lexer.specs.declared.tokens.TokenKind.TheVariants.{Name, Keyword, Number, Literal, Sign}
 use Rattle.std.proofs.lemmas.List.{append_cancel_left}
-use Rattle.qz_lexer.specs.Runs.{IsRun, is_of_line}
-use Rattle.qz_lexer.specs.Fronts.{Takes, Lacks}
+use Rattle.qz_lexer.specs.Runs.{Takes, Lacks, IsRun, is_of_line}
 use Rattle.qz_lexer.specs.Blanks.{IsSpace, space, comment, IsComment, line, block, IsLineComment, IsBlockComment}
 use Rattle.qz_lexer.specs.Words.{is_single_sign, is_double_sign, is_sign, is_reserved, IsWord, IsLiteral, IsNumber, IsValue}
 use Rattle.qz_lexer.specs.Pieces.{IsPiece, BeginsWith, NoneBegins}

@@ -1,8 +1,7 @@
 -- The second part of a literal.
 use Rattle.std.proofs.Common.{◌≡◌, ℕ, ◌≤◌, List, ◌∷◌, ◌++◌, length, sym, refl, ap, ◌∙◌, subst}
 use Rattle.std.specs.Char.{is_ascii_digit}
-use Rattle.qz_lexer.specs.Runs.{Skips}
-use Rattle.qz_lexer.specs.Fronts.{Takes, Lacks}
+use Rattle.qz_lexer.specs.Runs.{Takes, Lacks, Skips}
 use Rattle.qz_lexer.specs.Words.{IsValue}
 use Rattle.qz_lexer.proofs.RunLemmas.{run_same}
 

@@ -4,7 +4,7 @@ use Rattle.qz_lexer.specs.declared.tokens.TokenKind.{TokenKind}
 use Rattle.qz_lexer.specs.declared.tokens.TokenKind.TheVariants.{Name, Keyword, Number, Literal, Sign}
 use Rattle.qz_lexer.specs.Words.{IsWord, is_reserved, IsNumber, IsLiteral, is_sign}
 use Rattle.qz_lexer.specs.Blanks.{IsBlank}
-use Rattle.qz_lexer.specs.Fronts.{Takes, Lacks}
+use Rattle.qz_lexer.specs.Runs.{Takes, Lacks}
 
 -- the text, before the rest, is a token of the kind; or white space or a comment, for no kind
 abbrev pub IsPiece : Option TokenKind → List ℕ → List ℕ → Type 0
