@@ -1,4 +1,11 @@
 pub mod Walking
 pub mod Resting
 pub mod Evaluating
+pub mod Folding
 mod EmitsAlways
+mod Preemptions
+mod EntersAgain
+mod TakesDelayed
+mod WaitsForItself
+mod Contradicts
+mod WrittenOut

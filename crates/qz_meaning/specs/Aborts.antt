@@ -29,13 +29,13 @@ unless_left condition inside = if knows_yes condition then None else option_map 
 abbrev pub abortion : Scene → Kind → Behavior → Expr → Behavior
 abortion scene kind body condition = record {
   ends = λ ctx m.
-    (if kind.immediate then either (value_here scene ctx condition) (body.ends ctx m) else body.ends ctx m);
+      (if kind.immediate then either (value_here scene ctx condition) (body.ends ctx m) else body.ends ctx m);
   start = λ ctx g m. body.start ctx (start_guard kind (value_here scene ctx condition) g) m;
   ended = λ ctx r. either (value_here scene ctx condition) (body.ended ctx (inner r));
   resume = λ ctx r g. body.resume ctx (inner r) (refused kind (value_here scene ctx condition) g);
   rest = λ ctx m.
-    (if kind.immediate then unless_left (value_here scene ctx condition) (body.rest ctx m)
-    else option_map (λ inside. InBody inside) (body.rest ctx m));
+      (if kind.immediate then unless_left (value_here scene ctx condition) (body.rest ctx m)
+      else option_map (λ inside. InBody inside) (body.rest ctx m));
   after = λ ctx r. unless_left (value_here scene ctx condition) (body.after ctx (inner r));
   kept = λ ctx r. InBody (body.kept ctx (inner r));
   met_on_start = λ m. body.met_on_start m;

@@ -25,17 +25,17 @@ fits_in_side first second other = false
 abbrev pub choice : Scene → Expr → Behavior → Behavior → Behavior
 choice scene condition first second = record {
   ends = λ ctx m.
-    either (both (value_here scene ctx condition) (first.ends ctx m))
-        (both (opposite (value_here scene ctx condition)) (second.ends ctx m));
+      either (both (value_here scene ctx condition) (first.ends ctx m))
+      (both (opposite (value_here scene ctx condition)) (second.ends ctx m));
   start = λ ctx g m.
-    first.start ctx (both g (value_here scene ctx condition)) m
-    ++ second.start ctx (both g (opposite (value_here scene ctx condition))) m;
+      first.start ctx (both g (value_here scene ctx condition)) m
+      ++ second.start ctx (both g (opposite (value_here scene ctx condition))) m;
   ended = λ ctx r. (resting_side first second r).ended ctx (inner r);
   resume = λ ctx r g. (resting_side first second r).resume ctx (inner r) g;
   rest = λ ctx m.
-    (if knows_yes (value_here scene ctx condition)
-    then option_map (λ inside. InIf true inside) (first.rest ctx m)
-    else option_map (λ inside. InIf false inside) (second.rest ctx m));
+      (if knows_yes (value_here scene ctx condition)
+      then option_map (λ inside. InIf true inside) (first.rest ctx m)
+      else option_map (λ inside. InIf false inside) (second.rest ctx m));
   after = λ ctx r. option_map (λ inside. InIf (side_of r) inside) ((resting_side first second r).after ctx (inner r));
   kept = λ ctx r. InIf (side_of r) ((resting_side first second r).kept ctx (inner r));
   met_on_start = λ m. first.met_on_start m ++ second.met_on_start m;

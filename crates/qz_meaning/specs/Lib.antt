@@ -21,3 +21,7 @@ pub mod MacroSteps
 pub mod Runs
 pub mod Valuations
 pub mod Examples
+pub mod PreemptionExamples
+pub mod ScopeExamples
+pub mod WriterExamples
+pub mod ValuationExamples

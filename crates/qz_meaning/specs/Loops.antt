@@ -32,13 +32,13 @@ repetition scene number body condition = record {
   start = λ ctx g m. body.start ctx g m;
   ended = λ ctx r. both (body.ended ctx (inner r)) (opposite (value_here scene ctx condition));
   resume = λ ctx r g.
-    body.resume ctx (inner r) g
-    ++ body.start ctx (both (both g (body.ended ctx (inner r))) (value_here scene ctx condition)) (mark.Loop number);
+      body.resume ctx (inner r) g
+      ++ body.start ctx (both (both g (body.ended ctx (inner r))) (value_here scene ctx condition)) (mark.Loop number);
   rest = λ ctx m. option_map (λ inside. InBody inside) (body.rest ctx m);
   after = λ ctx r.
-    (if knows_yes (turns scene condition body ctx r)
-    then option_map (λ inside. InBody inside) (body.rest ctx (mark.Loop number))
-    else option_map (λ inside. InBody inside) (body.after ctx (inner r)));
+      (if knows_yes (turns scene condition body ctx r)
+      then option_map (λ inside. InBody inside) (body.rest ctx (mark.Loop number))
+      else option_map (λ inside. InBody inside) (body.after ctx (inner r)));
   kept = λ ctx r. InBody (body.kept ctx (inner r));
   met_on_start = λ m. body.met_on_start m;
   met_on_resume = λ r. body.met_on_resume (inner r) ++ body.met_on_start (mark.Loop number);

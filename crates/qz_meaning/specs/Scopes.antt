@@ -41,10 +41,10 @@ scope scene locals body = record {
   resume = λ ctx r g. body.resume (with_locals ctx locals mark.Zero) (inner r) g;
   rest = λ ctx m. option_map (λ inside. InScope (stores_from scene locals m) inside) (body.rest (with_locals ctx locals m) m);
   after = λ ctx r.
-    option_map (λ inside. InScope (stores_from scene locals mark.Zero) inside)
-        (body.after (with_locals ctx locals mark.Zero) (inner r));
+      option_map (λ inside. InScope (stores_from scene locals mark.Zero) inside)
+      (body.after (with_locals ctx locals mark.Zero) (inner r));
   kept = λ ctx r.
-    InScope (stores_from scene locals mark.Zero) (body.kept (with_locals ctx locals mark.Zero) (inner r));
+      InScope (stores_from scene locals mark.Zero) (body.kept (with_locals ctx locals mark.Zero) (inner r));
   met_on_start = λ m. met_new scene locals m ++ body.met_on_start m;
   met_on_resume = λ r. met_kept locals (stores_of r) ++ body.met_on_resume (inner r);
   fits = λ r. fits_in_scope locals body (out-Residual r);

@@ -54,18 +54,18 @@ sequence parts = record {
   start = λ ctx g m. start_in_turn ctx parts g m;
   ended = λ ctx r. ends_of_all ctx (later_members parts r) ((resting_member parts r).ended ctx (inner r)) mark.Zero;
   resume = λ ctx r g.
-    (resting_member parts r).resume ctx (inner r) g
-    ++ start_in_turn ctx (later_members parts r) (both g ((resting_member parts r).ended ctx (inner r))) mark.Zero;
+      (resting_member parts r).resume ctx (inner r) g
+      ++ start_in_turn ctx (later_members parts r) (both g ((resting_member parts r).ended ctx (inner r))) mark.Zero;
   rest = λ ctx m. rest_in_first ctx parts 0 m;
   after = λ ctx r.
-    (if knows_yes ((resting_member parts r).ended ctx (inner r))
-    then rest_in_first ctx (later_members parts r) (member_of r + 1) mark.Zero
-    else option_map (λ inside. InSeq (member_of r) inside) ((resting_member parts r).after ctx (inner r)));
+      (if knows_yes ((resting_member parts r).ended ctx (inner r))
+      then rest_in_first ctx (later_members parts r) (member_of r + 1) mark.Zero
+      else option_map (λ inside. InSeq (member_of r) inside) ((resting_member parts r).after ctx (inner r)));
   kept = λ ctx r. InSeq (member_of r) ((resting_member parts r).kept ctx (inner r));
   met_on_start = λ m. flat_map (λ (part : Behavior). part.met_on_start m) parts;
   met_on_resume = λ r.
-    (resting_member parts r).met_on_resume (inner r)
-    ++ flat_map (λ (part : Behavior). part.met_on_start mark.Zero) (later_members parts r);
+      (resting_member parts r).met_on_resume (inner r)
+      ++ flat_map (λ (part : Behavior). part.met_on_start mark.Zero) (later_members parts r);
   fits = λ r. fits_in_one parts (out-Residual r);
   stores_at = λ r. (resting_member parts r).stores_at (inner r);
 }

@@ -93,7 +93,7 @@ settled_later Torn = later.Clash
 abbrev pub settles_now : Program → List Write → Met → Know
 settles_now p writes one =
     settled (p.class_of one.instance.variable) (p.type_of one.instance.variable) one.store
-        (with_pending one.store (verdict one.instance false writes))
+    (with_pending one.store (verdict one.instance false writes))
 
 abbrev pub settles_later : List Write → Met → Later
 settles_later writes one = settled_later (verdict one.instance true writes)

@@ -45,16 +45,16 @@ suspension scene kind hold body condition = record {
   ends = λ ctx m. ends_on_start scene kind body condition ctx m;
   start = λ ctx g m. writes_on_start scene kind body condition ctx g m;
   ended = λ ctx r.
-    (if is_held r then ends_on_start scene kind body condition ctx mark.Zero
-    else both (opposite (value_here scene ctx condition)) (body.ended ctx (inner r)));
+      (if is_held r then ends_on_start scene kind body condition ctx mark.Zero
+      else both (opposite (value_here scene ctx condition)) (body.ended ctx (inner r)));
   resume = λ ctx r g.
-    (if is_held r then writes_on_start scene kind body condition ctx g mark.Zero
-    else body.resume ctx (inner r) (refused kind (value_here scene ctx condition) g));
+      (if is_held r then writes_on_start scene kind body condition ctx g mark.Zero
+      else body.resume ctx (inner r) (refused kind (value_here scene ctx condition) g));
   rest = λ ctx m. rest_on_start scene hold body condition ctx m;
   after = λ ctx r.
-    (if is_held r then rest_on_start scene hold body condition ctx mark.Zero
-    else (if knows_yes (value_here scene ctx condition) then Some (InBody (body.kept ctx (inner r)))
-    else option_map (λ inside. InBody inside) (body.after ctx (inner r))));
+      (if is_held r then rest_on_start scene hold body condition ctx mark.Zero
+      else (if knows_yes (value_here scene ctx condition) then Some (InBody (body.kept ctx (inner r)))
+      else option_map (λ inside. InBody inside) (body.after ctx (inner r))));
   kept = λ ctx r. (if is_held r then r else InBody (body.kept ctx (inner r)));
   met_on_start = λ m. body.met_on_start m;
   met_on_resume = λ r. (if is_held r then body.met_on_start mark.Zero else body.met_on_resume (inner r));

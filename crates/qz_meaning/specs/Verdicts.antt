@@ -57,4 +57,3 @@ tally i delayed so_far (w ∷ ws) =
 
 abbrev pub verdict : Instance → Bool → List Write → Verdict
 verdict i delayed writes = tally i delayed Nobody writes
-

@@ -1,9 +1,52 @@
 //! What the definitions give for small programs: each contract is a value that they compute to.
 
 ghost use Rattle.qz_meaning.specs.Examples.{EmitsAlways};
+ghost use Rattle.qz_meaning.specs.PreemptionExamples.{AbortsStrongly, AbortsWeakly, IsHeldBack};
+ghost use Rattle.qz_meaning.specs.ScopeExamples.{EntersAgain};
+ghost use Rattle.qz_meaning.specs.WriterExamples.{TakesDelayed, WaitsForItself, Contradicts};
+ghost use Rattle.qz_meaning.specs.ValuationExamples.{IsWrittenOut};
 
 /// `loop { emit o; pause; }` emits in its first step and in each later one.
 pub fn emits_always()
     ensures { EmitsAlways }
-{
-}
+{}
+
+/// A strong abort doesn't let its body act in the step in which it is left.
+pub fn aborts_strongly()
+    ensures { AbortsStrongly }
+{}
+
+/// A weak abort still lets its body act in the step in which it is left.
+pub fn aborts_weakly()
+    ensures { AbortsWeakly }
+{}
+
+/// An immediate suspend keeps control at its hold place while its condition holds.
+pub fn is_held_back()
+    ensures { IsHeldBack }
+{}
+
+/// A local of a scope that a loop leaves and enters again has two instances in that step.
+pub fn enters_again()
+    ensures { EntersAgain }
+{}
+
+/// A delayed value is taken in the step after its assignment.
+pub fn takes_delayed()
+    ensures { TakesDelayed }
+{}
+
+/// `if(x) emit x;` isn't definite.
+pub fn waits_for_itself()
+    ensures { WaitsForItself }
+{}
+
+/// Two writers that give different values clash.
+pub fn contradicts()
+    ensures { Contradicts }
+{}
+
+/// The bits of one valuation, in their order.
+pub fn is_written_out()
+    ensures { IsWrittenOut }
+{}
