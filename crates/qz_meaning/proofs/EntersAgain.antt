@@ -1,4 +1,4 @@
-use Rattle.std.proofs.Common.{◌≡◌, ℕ, List, [], ◌∷◌, refl, Bool, true, false, sym, ap, subst}
+use Rattle.std.proofs.Common.{◌≡◌, [], ◌∷◌, refl, false, sym, ap, subst}
 use mathlib.Core.Path.{fun_ext}
 use Rattle.qz_syntax.specs.declared.expressions.Expr.TheVariants as expr
 use Rattle.qz_syntax.specs.declared.expressions.Var.TheVariants as var
@@ -10,10 +10,8 @@ use Rattle.qz_meaning.specs.Choices.{choice}
 use Rattle.qz_meaning.specs.Loops.{repetition}
 use Rattle.qz_meaning.specs.Scopes.{scope}
 use Rattle.qz_meaning.specs.Programs.{Program}
-use Rattle.qz_meaning.specs.Settling.{Configuration, Environment}
-use Rattle.qz_meaning.specs.MacroSteps.{initial, IsStep}
 use Rattle.qz_meaning.specs.Examples.{always, with_true}
-use Rattle.qz_meaning.specs.ScopeExamples.{EntersAgain, EntersAndLeaves, entered_again, left_x, in_scope, at_turn}
+use Rattle.qz_meaning.specs.ScopeExamples.{EntersAgain, EntersAndLeaves, entered_again}
 use Rattle.qz_meaning.proofs.Walking.{walking}
 use Rattle.qz_meaning.proofs.Evaluating.{evaluating}
 use Rattle.qz_meaning.proofs.Resting.{resting}

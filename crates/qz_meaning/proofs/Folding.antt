@@ -1,6 +1,5 @@
 -- What a fold over a statement, or over a place where control rests, gives at each form.
-use Rattle.std.proofs.Common.{◌≡◌, ℕ, Bool, List, Option, map, sym, ap, ◌∙◌}
-use Rattle.std.specs.Option.{option_map}
+use Rattle.std.proofs.Common.{◌≡◌, ℕ, Bool, List, sym, ap, ◌∙◌}
 use Rattle.qz_syntax.specs.declared.places.Store.{Store}
 use Rattle.qz_syntax.specs.declared.places.Residual.{Residual}
 use Rattle.qz_syntax.specs.declared.places.Residual.TheVariants as residual

@@ -5,7 +5,11 @@ pub mod Folding
 mod EmitsAlways
 mod Preemptions
 mod EntersAgain
+mod CarriesStores
+mod ReadsAnew
 mod TakesDelayed
 mod WaitsForItself
 mod Contradicts
 mod WrittenOut
+pub mod JoinLemmas
+mod LineLemmas

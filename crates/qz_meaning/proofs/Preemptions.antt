@@ -1,13 +1,7 @@
-use Rattle.std.proofs.Common.{◌≡◌, ℕ, List, [], ◌∷◌, refl, Bool, true, false}
-use Rattle.qz_values.specs.declared.Ty.TheVariants as ty
-use Rattle.qz_values.specs.declared.Know.{Know}
-use Rattle.qz_values.specs.declared.Know.TheVariants.{Known}
-use Rattle.qz_values.specs.Values.{yes, no}
-use Rattle.qz_meaning.specs.Instances.{Instance, formal_instance}
-use Rattle.qz_meaning.specs.Settling.{Configuration, Environment}
-use Rattle.qz_meaning.specs.MacroSteps.{initial, IsStep}
+use Rattle.std.proofs.Common.{[], ◌∷◌, refl}
+use Rattle.qz_meaning.specs.Instances.{formal_instance}
 use Rattle.qz_meaning.specs.Examples.{with_true}
-use Rattle.qz_meaning.specs.PreemptionExamples.{EndsInSecondStep, AbortsStrongly, AbortsWeakly, IsHeldBack}
+use Rattle.qz_meaning.specs.PreemptionExamples.{AbortsStrongly, AbortsWeakly, LeavesAtOnce, LeavesAfterActing, IsHeldBack}
 use Rattle.qz_meaning.proofs.Walking.{walking}
 use Rattle.qz_meaning.proofs.Evaluating.{evaluating}
 use Rattle.qz_meaning.proofs.Resting.{resting}
@@ -22,7 +16,7 @@ aborts_strongly = record {
       settled = simp (walking, evaluating) (record { now = refl; later = refl }, (record { now = refl; later = refl }, tt));
     };
     outputs_are = refl;
-    next_is = simp (walking, evaluating);
+    next_is = simp walking;
   };
   second = record {
     values = with_true (formal_instance 0 ∷ []);
@@ -56,7 +50,7 @@ aborts_weakly = record {
       settled = simp (walking, evaluating) (record { now = refl; later = refl }, (record { now = refl; later = refl }, tt));
     };
     outputs_are = refl;
-    next_is = simp (walking, evaluating);
+    next_is = simp walking;
   };
   second = record {
     values = with_true (formal_instance 0 ∷ formal_instance 2 ∷ []);
@@ -96,7 +90,7 @@ is_held_back = record {
     values = with_true (formal_instance 0 ∷ []);
     solution = record {
       inputs = refl;
-      plain = simp (walking, evaluating, resting) (record { now = tt; later = tt }, tt);
+      plain = simp (walking, resting) (record { now = tt; later = tt }, tt);
       settled = simp (walking, evaluating, resting) (record { now = refl; later = refl }, tt);
     };
     outputs_are = refl;
@@ -106,10 +100,34 @@ is_held_back = record {
     values = with_true (formal_instance 1 ∷ []);
     solution = record {
       inputs = refl;
-      plain = simp (walking, evaluating, resting) (record { now = tt; later = tt }, tt);
+      plain = simp (walking, resting) (record { now = tt; later = tt }, tt);
       settled = simp (walking, evaluating, resting) (record { now = refl; later = refl }, tt);
     };
     outputs_are = refl;
     next_is = simp (walking, evaluating, resting);
   };
+}
+
+pub leaves_at_once : LeavesAtOnce
+leaves_at_once = record {
+  values = with_true (formal_instance 0 ∷ formal_instance 2 ∷ []);
+  solution = record {
+    inputs = refl;
+    plain = simp walking (record { now = tt; later = tt }, (record { now = tt; later = tt }, tt));
+    settled = simp (walking, evaluating) (record { now = refl; later = refl }, (record { now = refl; later = refl }, tt));
+  };
+  outputs_are = refl;
+  next_is = simp (walking, evaluating);
+}
+
+pub leaves_after_acting : LeavesAfterActing
+leaves_after_acting = record {
+  values = with_true (formal_instance 0 ∷ formal_instance 1 ∷ formal_instance 2 ∷ []);
+  solution = record {
+    inputs = refl;
+    plain = simp walking (record { now = tt; later = tt }, (record { now = tt; later = tt }, tt));
+    settled = simp (walking, evaluating) (record { now = refl; later = refl }, (record { now = refl; later = refl }, tt));
+  };
+  outputs_are = refl;
+  next_is = simp (walking, evaluating);
 }

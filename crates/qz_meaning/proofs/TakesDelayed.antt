@@ -1,10 +1,8 @@
-use Rattle.std.proofs.Common.{◌≡◌, ℕ, List, [], ◌∷◌, refl, Bool, true, false}
-use Rattle.qz_values.specs.declared.Know.{Know}
+use Rattle.std.proofs.Common.{ℕ, refl}
 use Rattle.qz_values.specs.declared.Know.TheVariants.{Known}
 use Rattle.qz_syntax.specs.declared.places.Later.{Later}
 use Rattle.qz_syntax.specs.declared.places.Later.TheVariants as later
 use Rattle.qz_meaning.specs.Settling.{Environment}
-use Rattle.qz_meaning.specs.MacroSteps.{initial, IsStep}
 use Rattle.qz_meaning.specs.Examples.{byte}
 use Rattle.qz_meaning.specs.WriterExamples.{TakesDelayed}
 use Rattle.qz_meaning.proofs.Walking.{walking}
@@ -22,21 +20,21 @@ takes_delayed = record {
     values = all_byte 0 (later.Known (byte 1));
     solution = record {
       inputs = refl;
-      plain = simp (walking, evaluating) (record { now = tt; later = tt }, tt);
+      plain = simp walking (record { now = tt; later = tt }, tt);
       settled = simp (walking, evaluating) (record { now = refl; later = refl }, tt);
     };
     outputs_are = refl;
-    next_is = simp (walking, evaluating);
+    next_is = simp walking;
   };
   second = record {
     values = all_byte 1 later.Absent;
     solution = record {
       inputs = refl;
-      plain = simp (walking, evaluating, resting) (record { now = tt; later = tt }, tt);
+      plain = simp (walking, resting) (record { now = tt; later = tt }, tt);
       settled = simp (walking, evaluating, resting) (record { now = refl; later = refl }, tt);
     };
     outputs_are = refl;
-    next_is = simp (walking, evaluating, resting);
+    next_is = simp (walking, resting);
   };
   third = record {
     values = all_byte 1 later.Absent;

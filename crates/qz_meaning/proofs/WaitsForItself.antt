@@ -1,12 +1,11 @@
-use Rattle.std.proofs.Common.{◌≡◌, ℕ, suc, zero, List, [], ◌∷◌, refl, Bool, true, false, sym, ap, subst, ◌∙◌}
+use Rattle.std.proofs.Common.{◌≡◌, ℕ, suc, zero, [], refl, false, sym, ap, subst, ◌∙◌}
 use mathlib.Core.Path.{fun_ext}
 use Rattle.qz_values.specs.declared.Ty.TheVariants as ty
 use Rattle.qz_values.specs.declared.Know.{Know}
-use Rattle.qz_values.specs.declared.Know.TheVariants.{Unknown, Known, Clash}
+use Rattle.qz_values.specs.declared.Know.TheVariants.{Unknown, Known}
 use Rattle.qz_values.specs.Values.{yes}
 use Rattle.qz_values.specs.Knowledge.{both}
 use Rattle.qz_syntax.specs.declared.declarations.Class.TheVariants.{Event}
-use Rattle.qz_syntax.specs.declared.expressions.Expr.TheVariants as expr
 use Rattle.qz_syntax.specs.declared.expressions.Var.TheVariants as var
 use Rattle.qz_syntax.specs.declared.places.Later.TheVariants as later
 use Rattle.qz_meaning.specs.Instances.{formal_instance}
@@ -14,13 +13,12 @@ use Rattle.qz_meaning.specs.Scenes.{Scene, new_store}
 use Rattle.qz_meaning.specs.Behaviors.{Behavior, idle}
 use Rattle.qz_meaning.specs.Simple.{assignment}
 use Rattle.qz_meaning.specs.Choices.{choice}
-use Rattle.qz_meaning.specs.Parallels.{parallel}
 use Rattle.qz_meaning.specs.Verdicts.{verdict_of_one}
 use Rattle.qz_meaning.specs.Programs.{Program}
 use Rattle.qz_meaning.specs.Settling.{Environment, settled}
 use Rattle.qz_meaning.specs.Rounds.{round, next_round, IsLast, IsKnown, IsDefinite}
 use Rattle.qz_meaning.specs.MacroSteps.{initial}
-use Rattle.qz_meaning.specs.Examples.{always, byte, formal}
+use Rattle.qz_meaning.specs.Examples.{always, formal}
 use Rattle.qz_meaning.specs.WriterExamples.{WaitsForItself, waiting}
 use Rattle.qz_meaning.proofs.Walking.{walking}
 use Rattle.qz_meaning.proofs.Evaluating.{evaluating}

@@ -1,7 +1,6 @@
-use Rattle.std.proofs.Common.{◌≡◌, ℕ, List, [], ◌∷◌, refl}
+use Rattle.std.proofs.Common.{refl}
 use Rattle.qz_meaning.specs.ValuationExamples.{IsWrittenOut}
 use Rattle.qz_meaning.proofs.Walking.{walking}
-use Rattle.qz_meaning.proofs.Evaluating.{evaluating}
 use Rattle.qz_meaning.proofs.Resting.{resting}
 use Rattle.qz_meaning.proofs.Folding.{folding, folding_places}
 

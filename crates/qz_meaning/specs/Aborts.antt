@@ -1,5 +1,5 @@
 -- The four aborts: strong or weak, immediate or not.
-use Rattle.std.specs.Prelude.{ℕ, Bool, true, false, List, Option, None, if◌then◌else◌}
+use Rattle.std.specs.Prelude.{Option, None, if◌then◌else◌}
 use Rattle.std.specs.Option.{option_map}
 use Rattle.qz_values.specs.declared.Know.{Know}
 use Rattle.qz_values.specs.Knowledge.{both, either, opposite, knows_yes}
@@ -8,9 +8,9 @@ use Rattle.qz_syntax.specs.declared.statements.Kind.{Kind}
 use Rattle.qz_syntax.specs.declared.places.Residual.{Residual, out-Residual}
 use Rattle.qz_syntax.specs.declared.places.Residual.TheVariants.{InBody}
 use Rattle.qz_meaning.specs.Residuals.{inner}
-use Rattle.qz_meaning.specs.Scenes.{Scene, Context}
+use Rattle.qz_meaning.specs.Scenes.{Scene}
 use Rattle.qz_meaning.specs.Expressions.{value_here}
-use Rattle.qz_meaning.specs.Behaviors.{Write, Behavior}
+use Rattle.qz_meaning.specs.Behaviors.{Behavior}
 use Rattle.qz_meaning.specs.Loops.{fits_in_body}
 
 -- a strong preemption lets its body act only where the condition doesn't hold; a weak one lets it act

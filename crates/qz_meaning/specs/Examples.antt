@@ -1,11 +1,10 @@
 -- What small programs are made of, and what the definitions give for a first one.
-use Rattle.std.specs.Prelude.{ℕ, ◌≡◌, List, [], ◌∷◌, Option, None, true, false}
+use Rattle.std.specs.Prelude.{ℕ, List, [], ◌∷◌, Option, None}
 use Rattle.std.specs.List.{list_any}
 use Rattle.qz_values.specs.declared.Ty.TheVariants as ty
 use Rattle.qz_values.specs.declared.Value.{Value}
-use Rattle.qz_values.specs.declared.Know.{Know}
 use Rattle.qz_values.specs.declared.Know.TheVariants.{Known}
-use Rattle.qz_values.specs.Values.{yes, no, value_of, truth_of}
+use Rattle.qz_values.specs.Values.{yes, value_of, truth_of}
 use Rattle.qz_syntax.specs.declared.declarations.Class.TheVariants.{Event, Mem}
 use Rattle.qz_syntax.specs.declared.declarations.Dir.TheVariants as dir
 use Rattle.qz_syntax.specs.declared.declarations.Formal.{Formal}
@@ -15,7 +14,6 @@ use Rattle.qz_syntax.specs.declared.expressions.Expr.{Expr}
 use Rattle.qz_syntax.specs.declared.expressions.Expr.TheVariants as expr
 use Rattle.qz_syntax.specs.declared.statements.Stmt.{Stmt}
 use Rattle.qz_syntax.specs.declared.statements.Stmt.TheVariants as stmt
-use Rattle.qz_syntax.specs.declared.modules.Module.{Module}
 use Rattle.qz_syntax.specs.declared.places.Place.TheVariants as place
 use Rattle.qz_syntax.specs.declared.places.Later.TheVariants as later
 use Rattle.qz_syntax.specs.declared.places.Residual.TheVariants as residual

@@ -14,6 +14,7 @@ pub mod Scopes
 pub mod Calls
 pub mod Walks
 pub mod Verdicts
+pub mod VerdictLaws
 pub mod Programs
 pub mod Settling
 pub mod Rounds
@@ -23,5 +24,6 @@ pub mod Valuations
 pub mod Examples
 pub mod PreemptionExamples
 pub mod ScopeExamples
+pub mod CallExamples
 pub mod WriterExamples
 pub mod ValuationExamples

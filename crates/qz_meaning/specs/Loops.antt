@@ -1,5 +1,5 @@
 -- `do S while(e)`.
-use Rattle.std.specs.Prelude.{ℕ, Bool, true, false, List, ◌++◌, Option, if◌then◌else◌}
+use Rattle.std.specs.Prelude.{ℕ, Bool, false, ◌++◌, if◌then◌else◌}
 use Rattle.std.specs.Option.{option_map}
 use Rattle.qz_values.specs.declared.Know.{Know}
 use Rattle.qz_values.specs.declared.Know.TheVariants.{Known}
@@ -13,7 +13,7 @@ use Rattle.qz_syntax.specs.declared.places.Residual.TheVariants.{InBody}
 use Rattle.qz_meaning.specs.Residuals.{inner}
 use Rattle.qz_meaning.specs.Scenes.{Scene, Context}
 use Rattle.qz_meaning.specs.Expressions.{value_here}
-use Rattle.qz_meaning.specs.Behaviors.{Write, Behavior}
+use Rattle.qz_meaning.specs.Behaviors.{Behavior}
 
 -- control rests in the body of a loop, an abort or a suspend
 abbrev pub fits_in_body : Behavior → Residual-F Residual → Bool

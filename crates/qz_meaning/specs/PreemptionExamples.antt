@@ -3,7 +3,6 @@ use Rattle.std.specs.Prelude.{Bool, true, false, List, [], ◌∷◌, Some, None
 use Rattle.qz_values.specs.declared.Ty.TheVariants as ty
 use Rattle.qz_values.specs.declared.Value.{Value}
 use Rattle.qz_values.specs.Values.{yes, no}
-use Rattle.qz_syntax.specs.declared.declarations.Formal.{Formal}
 use Rattle.qz_syntax.specs.declared.statements.Stmt.TheVariants as stmt
 use Rattle.qz_syntax.specs.declared.places.Place.TheVariants as place
 use Rattle.qz_syntax.specs.declared.places.Residual.TheVariants as residual
@@ -44,6 +43,22 @@ AbortsStrongly = EndsInSecondStep (aborted false) (no ∷ no ∷ [])
 -- a weak one still does
 abbrev pub AbortsWeakly : Type 0
 AbortsWeakly = EndsInSecondStep (aborted true) (no ∷ yes ∷ [])
+
+-- `immediate abort { emit s; pause; } when(a); emit d;`, or the same with `weak`
+abbrev pub left_at_once : Bool → Program
+left_at_once weak = program (event_input ∷ event_output ∷ event_output ∷ []) [] (None ∷ []) 0
+    (stmt.Seq
+    (stmt.Abort (record { weak = weak; immediate = true }) (stmt.Seq (emit 1 ∷ stmt.Pause 0 ∷ [])) (formal 0)
+    ∷ emit 2
+    ∷ []))
+
+-- a strong one that is left in its first step doesn't emit `s`; what follows it is started in that step
+abbrev pub LeavesAtOnce : Type 0
+LeavesAtOnce = IsStep (left_at_once false) (initial (left_at_once false)) (yes ∷ []) (no ∷ yes ∷ []) is_over
+
+-- a weak one emits `s`, and doesn't enter the pause
+abbrev pub LeavesAfterActing : Type 0
+LeavesAfterActing = IsStep (left_at_once true) (initial (left_at_once true)) (yes ∷ []) (yes ∷ yes ∷ []) is_over
 
 -- `immediate suspend { emit o; pause; } when(c);`
 abbrev pub held_back : Program

@@ -1,5 +1,5 @@
 -- Scopes: blocks with local variables.
-use Rattle.std.specs.Prelude.{ℕ, ◌==◌, Bool, true, false, ◌&&◌, List, [], ◌∷◌, ◌++◌, length, map, Option}
+use Rattle.std.specs.Prelude.{ℕ, ◌==◌, Bool, false, ◌&&◌, List, ◌++◌, length, map}
 use Rattle.std.specs.List.{zip}
 use Rattle.std.specs.Option.{option_map}
 use Rattle.qz_syntax.specs.declared.expressions.Var.TheVariants as var
@@ -27,6 +27,7 @@ met_new scene locals m =
 abbrev pub met_kept : List ℕ → List Store → List Met
 met_kept locals stores = map (λ (one : ℕ × Store). record { instance = local_instance one.0 mark.Zero; store = one.1 }) (zip locals stores)
 
+-- control rests in a scope, with one store for each of its locals
 abbrev pub fits_in_scope : List ℕ → Behavior → Residual-F Residual → Bool
 fits_in_scope locals body (Residual-F.InScope stores inside) = (length stores == length locals) && body.fits inside
 fits_in_scope locals body other = false

@@ -1,5 +1,5 @@
 -- What writers come to in small programs: a delayed value, a variable that waits for itself, a contradiction.
-use Rattle.std.specs.Prelude.{◌≡◌, true, false, List, [], ◌∷◌, None}
+use Rattle.std.specs.Prelude.{◌≡◌, true, false, [], ◌∷◌, None}
 use Rattle.qz_values.specs.declared.Know.TheVariants.{Unknown, Clash}
 use Rattle.qz_syntax.specs.declared.expressions.Var.TheVariants as var
 use Rattle.qz_syntax.specs.declared.expressions.Expr.TheVariants as expr

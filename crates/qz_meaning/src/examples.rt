@@ -1,8 +1,9 @@
 //! What the definitions give for small programs: each contract is a value that they compute to.
 
 ghost use Rattle.qz_meaning.specs.Examples.{EmitsAlways};
-ghost use Rattle.qz_meaning.specs.PreemptionExamples.{AbortsStrongly, AbortsWeakly, IsHeldBack};
-ghost use Rattle.qz_meaning.specs.ScopeExamples.{EntersAgain};
+ghost use Rattle.qz_meaning.specs.PreemptionExamples.{AbortsStrongly, AbortsWeakly, LeavesAtOnce, LeavesAfterActing, IsHeldBack};
+ghost use Rattle.qz_meaning.specs.ScopeExamples.{EntersAgain, HasThreeInstances, CarriesStores, suspended};
+ghost use Rattle.qz_meaning.specs.CallExamples.{ReadsAnew};
 ghost use Rattle.qz_meaning.specs.WriterExamples.{TakesDelayed, WaitsForItself, Contradicts};
 ghost use Rattle.qz_meaning.specs.ValuationExamples.{IsWrittenOut};
 
@@ -21,6 +22,16 @@ pub fn aborts_weakly()
     ensures { AbortsWeakly }
 {}
 
+/// An immediate strong abort that is left in its first step doesn't let its body act.
+pub fn leaves_at_once()
+    ensures { LeavesAtOnce }
+{}
+
+/// An immediate weak abort that is left in its first step lets its body act, and control doesn't enter it.
+pub fn leaves_after_acting()
+    ensures { LeavesAfterActing }
+{}
+
 /// An immediate suspend keeps control at its hold place while its condition holds.
 pub fn is_held_back()
     ensures { IsHeldBack }
@@ -29,6 +40,21 @@ pub fn is_held_back()
 /// A local of a scope that a loop leaves and enters again has two instances in that step.
 pub fn enters_again()
     ensures { EntersAgain }
+{}
+
+/// A local inside two loops has three instances.
+pub fn has_three_instances()
+    ensures { HasThreeInstances }
+{}
+
+/// A suspended scope's stores are carried on.
+pub fn carries_stores()
+    ensures { CarriesStores suspended }
+{}
+
+/// A call's argument is evaluated anew in each step.
+pub fn reads_anew()
+    ensures { ReadsAnew }
 {}
 
 /// A delayed value is taken in the step after its assignment.
