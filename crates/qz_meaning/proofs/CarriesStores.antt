@@ -25,7 +25,7 @@ use Rattle.qz_meaning.proofs.Resting.{resting}
 use Rattle.qz_meaning.proofs.Folding.{folding}
 
 -- the program, with what its body does in the place of its tree
-abbrev suspending : Program
+abbrev pub suspending : Program
 suspending = record suspended {
   body = λ scene.
       suspension scene (record { weak = false; immediate = false }) None
@@ -42,7 +42,7 @@ suspending = record suspended {
 suspending_body : (scene : Scene) → suspended.body scene ≡ suspending.body scene
 suspending_body scene = simp walking
 
-suspending_is : suspended ≡ suspending
+pub suspending_is : suspended ≡ suspending
 suspending_is = ap (λ (body : Scene → Behavior). record suspended { body = body }) (fun_ext suspending_body)
 
 -- the values of a step: of `c`, of `y` and of `x`, and what is delayed for `x`

@@ -3,6 +3,7 @@ pub mod Resting
 pub mod Evaluating
 pub mod Folding
 mod EmitsAlways
+mod EmitsInOneRun
 mod Preemptions
 mod EntersAgain
 mod CarriesStores

@@ -1,5 +1,5 @@
 -- What small programs are made of, and what the definitions give for a first one.
-use Rattle.std.specs.Prelude.{ℕ, List, [], ◌∷◌, Option, None}
+use Rattle.std.specs.Prelude.{ℕ, List, [], ◌∷◌, Option, None, replicate}
 use Rattle.std.specs.List.{list_any}
 use Rattle.qz_values.specs.declared.Ty.TheVariants as ty
 use Rattle.qz_values.specs.declared.Value.{Value}
@@ -22,6 +22,7 @@ use Rattle.qz_meaning.specs.Scenes.{new_store}
 use Rattle.qz_meaning.specs.Programs.{Program, program_of}
 use Rattle.qz_meaning.specs.Settling.{Configuration, Environment}
 use Rattle.qz_meaning.specs.MacroSteps.{initial, IsStep}
+use Rattle.qz_meaning.specs.Runs.{IsOnlyRun}
 
 -- `event !x`
 abbrev pub event_output : Formal
@@ -86,3 +87,7 @@ at_its_pause = record {
 pub record EmitsAlways : Type 0 where
   pub first : IsStep always_emitted (initial always_emitted) [] (yes ∷ []) at_its_pause
   pub again : IsStep always_emitted at_its_pause [] (yes ∷ []) at_its_pause
+
+-- over any number of steps it has exactly one run, and emits in each of them
+abbrev pub EmitsInOneRun : Type 0
+EmitsInOneRun = (n : ℕ) → IsOnlyRun always_emitted (replicate n []) (replicate n (yes ∷ []))

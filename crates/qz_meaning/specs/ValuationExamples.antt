@@ -1,4 +1,4 @@
--- The bits of a valuation, written out.
+-- The bits of valuations, written out.
 use Rattle.std.specs.Prelude.{◌≡◌, ◌++◌, Bool, true, false, List, [], ◌∷◌, None, replicate}
 use Rattle.qz_values.specs.declared.Ty.TheVariants as ty
 use Rattle.qz_values.specs.declared.Value.{Value}
@@ -13,7 +13,8 @@ use Rattle.qz_syntax.specs.declared.places.Place.TheVariants as place
 use Rattle.qz_syntax.specs.declared.places.Residual.TheVariants as residual
 use Rattle.qz_meaning.specs.Programs.{Program}
 use Rattle.qz_meaning.specs.Valuations.{Valuation, IsPermitted, bits_of_valuation, ComesBefore}
-use Rattle.qz_meaning.specs.Examples.{event_input, program}
+use Rattle.qz_meaning.specs.Examples.{event_input, byte, program}
+use Rattle.qz_meaning.specs.ScopeExamples.{in_suspended}
 
 -- `mem bv[2] !y`
 abbrev pub pair_output : Formal
@@ -51,3 +52,32 @@ pub record IsWrittenOut : Type 0 where
   pub permitted : IsPermitted delaying_a_pair (valued yes)
   pub bits : bits_of_valuation delaying_a_pair (valued yes) ≡ place_bits ++ first_group ++ second_group ++ replicate 124 false
   pub before : ComesBefore delaying_a_pair (valued no) (valued yes)
+
+-- control rests at the first pause of a suspended scope, whose local `x` has the delayed value 5
+abbrev pub with_local : Valuation
+with_local = record {
+  configuration = in_suspended (residual.At 0) 1 (record { value = byte 5; pending = true }) (byte 0);
+  inputs = no ∷ [];
+}
+
+-- the first groups of `y`, which is 0, of `x` with its mark, and of the input
+abbrev pub groups_with_local : List Bool
+groups_with_local =
+    (false ∷ false ∷ true ∷ true ∷ false ∷ []) ++ (false ∷ false ∷ false ∷ []) ++ (false ∷ true ∷ false ∷ [])
+
+-- the program has ended, so no local exists, and `y` keeps 5
+abbrev pub without_local : Valuation
+without_local = record {
+  configuration = record { place = place.Ended; outputs = record { value = byte 5; pending = false } ∷ [] };
+  inputs = no ∷ [];
+}
+
+-- the first groups of `y`, of `x`, which doesn't exist, and of the input
+abbrev pub groups_without_local : List Bool
+groups_without_local =
+    (false ∷ true ∷ false ∷ false ∷ false ∷ []) ++ (false ∷ false ∷ false ∷ []) ++ (true ∷ false ∷ false ∷ [])
+
+-- a local's bits stand after the outputs', and are false where it doesn't exist
+pub record HasLocalBits (p : Program) : Type 0 where
+  pub existing : bits_of_valuation p with_local ≡ (true ∷ true ∷ false ∷ []) ++ groups_with_local ++ replicate 183 false
+  pub missing : bits_of_valuation p without_local ≡ (true ∷ false ∷ false ∷ []) ++ groups_without_local ++ replicate 183 false

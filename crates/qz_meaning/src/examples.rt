@@ -1,15 +1,20 @@
 //! What the definitions give for small programs: each contract is a value that they compute to.
 
-ghost use Rattle.qz_meaning.specs.Examples.{EmitsAlways};
+ghost use Rattle.qz_meaning.specs.Examples.{EmitsAlways, EmitsInOneRun};
 ghost use Rattle.qz_meaning.specs.PreemptionExamples.{AbortsStrongly, AbortsWeakly, LeavesAtOnce, LeavesAfterActing, IsHeldBack};
 ghost use Rattle.qz_meaning.specs.ScopeExamples.{EntersAgain, HasThreeInstances, CarriesStores, suspended};
 ghost use Rattle.qz_meaning.specs.CallExamples.{ReadsAnew};
 ghost use Rattle.qz_meaning.specs.WriterExamples.{TakesDelayed, WaitsForItself, Contradicts};
-ghost use Rattle.qz_meaning.specs.ValuationExamples.{IsWrittenOut};
+ghost use Rattle.qz_meaning.specs.ValuationExamples.{IsWrittenOut, HasLocalBits};
 
 /// `loop { emit o; pause; }` emits in its first step and in each later one.
 pub fn emits_always()
     ensures { EmitsAlways }
+{}
+
+/// The same program has exactly one run over any number of steps.
+pub fn emits_in_one_run()
+    ensures { EmitsInOneRun }
 {}
 
 /// A strong abort doesn't let its body act in the step in which it is left.
@@ -75,4 +80,9 @@ pub fn contradicts()
 /// The bits of one valuation, in their order.
 pub fn is_written_out()
     ensures { IsWrittenOut }
+{}
+
+/// The bits of a local in two valuations, where it exists and where it doesn't.
+pub fn has_local_bits()
+    ensures { HasLocalBits suspended }
 {}
