@@ -1,4 +1,4 @@
-use Rattle.std.proofs.Common.{◌≡◌, ℕ, suc, zero, List, [], ◌∷◌, map, refl, ap, subst, ◌∙◌, false}
+use Rattle.std.proofs.Common.{◌≡◌, ℕ, suc, zero, List, [], ◌∷◌, map, refl, ap, sym, subst, ◌∙◌, false}
 use Rattle.std.specs.Prelude.{replicate}
 use mathlib.Core.Path.{fun_ext}
 use Rattle.qz_values.specs.declared.Ty.TheVariants as ty
@@ -16,9 +16,10 @@ use Rattle.qz_meaning.specs.Sequences.{sequence}
 use Rattle.qz_meaning.specs.Loops.{repetition}
 use Rattle.qz_meaning.specs.Programs.{Program}
 use Rattle.qz_meaning.specs.Settling.{Configuration, Environment, step_writes, settles_now}
+use Rattle.qz_meaning.specs.Rounds.{round, next_round, IsKnown, IsDefinite}
 use Rattle.qz_meaning.specs.MacroSteps.{initial, IsStep, next_configuration}
 use Rattle.qz_meaning.specs.Runs.{RunsFrom}
-use Rattle.qz_meaning.specs.Examples.{always, always_emitted, at_its_pause, EmitsInOneRun}
+use Rattle.qz_meaning.specs.Examples.{always, always_emitted, at_its_pause, StartsDefinite, EmitsInOneRun}
 use Rattle.qz_meaning.proofs.Walking.{walking}
 use Rattle.qz_meaning.proofs.Evaluating.{evaluating}
 use Rattle.qz_meaning.proofs.Resting.{resting}
@@ -118,3 +119,27 @@ emits_in_one_run n = record {
   only_outputs = λ outs run. (only_one n outs run.0 run.1).0;
   only_way = λ outs passed run. (only_one n outs passed run).1;
 }
+
+-- each round after the first knows the output
+round_yes : (env : Environment) → (next_round emitting (initial emitting) [] env).now (formal_instance 0) ≡ Known yes
+round_yes env = simp evaluating
+
+definite : IsDefinite emitting (initial emitting) []
+definite = record {
+  least = round emitting (initial emitting) [] 1;
+  is_least = record {
+    number = 1;
+    last = (
+      record {
+        now = round_yes (round emitting (initial emitting) [] 0) ∙ sym (round_yes (round emitting (initial emitting) [] 1));
+        later = refl;
+      },
+      tt,
+    );
+    is = refl;
+  };
+  plain = (record { now = subst IsKnown (sym (round_yes (round emitting (initial emitting) [] 0))) tt; later = tt }, tt);
+}
+
+pub starts_definite : StartsDefinite
+starts_definite = subst (λ (p : Program). IsDefinite p (initial p) []) (sym emitting_is) definite

@@ -21,6 +21,7 @@ use Rattle.qz_meaning.specs.Instances.{Instance, is_same_instance}
 use Rattle.qz_meaning.specs.Scenes.{new_store}
 use Rattle.qz_meaning.specs.Programs.{Program, program_of}
 use Rattle.qz_meaning.specs.Settling.{Configuration, Environment}
+use Rattle.qz_meaning.specs.Rounds.{IsDefinite}
 use Rattle.qz_meaning.specs.MacroSteps.{initial, IsStep}
 use Rattle.qz_meaning.specs.Runs.{IsOnlyRun}
 
@@ -87,6 +88,10 @@ at_its_pause = record {
 pub record EmitsAlways : Type 0 where
   pub first : IsStep always_emitted (initial always_emitted) [] (yes ∷ []) at_its_pause
   pub again : IsStep always_emitted at_its_pause [] (yes ∷ []) at_its_pause
+
+-- its first configuration is definite
+abbrev pub StartsDefinite : Type 0
+StartsDefinite = IsDefinite always_emitted (initial always_emitted) []
 
 -- over any number of steps it has exactly one run, and emits in each of them
 abbrev pub EmitsInOneRun : Type 0

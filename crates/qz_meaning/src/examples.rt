@@ -1,6 +1,6 @@
 //! What the definitions give for small programs: each contract is a value that they compute to.
 
-ghost use Rattle.qz_meaning.specs.Examples.{EmitsAlways, EmitsInOneRun};
+ghost use Rattle.qz_meaning.specs.Examples.{EmitsAlways, StartsDefinite, EmitsInOneRun};
 ghost use Rattle.qz_meaning.specs.PreemptionExamples.{AbortsStrongly, AbortsWeakly, LeavesAtOnce, LeavesAfterActing, IsHeldBack};
 ghost use Rattle.qz_meaning.specs.ScopeExamples.{EntersAgain, HasThreeInstances, CarriesStores, suspended};
 ghost use Rattle.qz_meaning.specs.CallExamples.{ReadsAnew};
@@ -10,6 +10,11 @@ ghost use Rattle.qz_meaning.specs.ValuationExamples.{IsWrittenOut, HasLocalBits}
 /// `loop { emit o; pause; }` emits in its first step and in each later one.
 pub fn emits_always()
     ensures { EmitsAlways }
+{}
+
+/// The first configuration of the same program is definite.
+pub fn starts_definite()
+    ensures { StartsDefinite }
 {}
 
 /// The same program has exactly one run over any number of steps.
