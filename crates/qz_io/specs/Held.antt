@@ -1,5 +1,5 @@
 -- What files hold, where it is told.
-use Rattle.std.specs.Prelude.{◌≡◌, ◌≢◌, ℕ, List, Option, Some, None}
+use Rattle.std.specs.Prelude.{ℕ, List, Option, Some, None}
 
 -- the bytes under each name, by the name's bytes
 abbrev pub Held : Type 0

@@ -14,8 +14,11 @@ use std::{fs, io, rt};
 
 /// The files of the system, through the program's runtime.
 ///
-/// They don't tell what is held, since other programs write the same files. A read or a write that a
-/// signal interrupts is tried again and counts as no fault.
+/// They don't tell what is held, since other programs write the same files. `get` reads a file in at
+/// most `max + 1` turns of at least a byte each, and answers `Absent` where the system finds no file.
+/// `put` makes the file, or empties the one that is there, and writes all the bytes. Any other error
+/// is a fault, but a read or a write that a signal interrupts is tried again. What the system finds
+/// amiss only as a file closes isn't seen. Both counts stay at `u64::MAX` once they stand there.
 #[derive(Debug, Drop)]
 pub struct HostFiles<R> {
     rt: R,

@@ -10,8 +10,9 @@ use std::io;
 
 /// The standard output, through the program's runtime.
 ///
-/// It doesn't tell what was written. A write that a signal interrupts is tried again and counts as no
-/// fault.
+/// It doesn't tell what was written. Any error of a write is a fault, and so is a write that takes
+/// nothing, but one that a signal interrupts is tried again. The count stays at `u64::MAX` once it
+/// stands there.
 #[derive(Debug, Drop)]
 pub struct HostSink<R> {
     rt: R,

@@ -1,12 +1,10 @@
 -- Comments, found by their bytes.
-use Rattle.std.proofs.Common.{◌≡◌, ℕ, ◌+◌, ◌<◌, ◌≤◌, List, [], ◌∷◌, ◌++◌, length, take, drop, get_or, codes, sym, refl, ap, ◌∙◌, subst, arith, lit<, inl, inr, IsUtf8, encode_utf8_all, append_assoc, length-append, length-drop, get_or-drop, take-append-drop, length-take-le}
+use Rattle.std.proofs.Common.{◌≡◌, ℕ, ◌+◌, ◌<◌, ◌≤◌, List, ◌∷◌, ◌++◌, length, take, drop, get_or, codes, sym, refl, ap, ◌∙◌, arith, lit<, inl, inr, IsUtf8, encode_utf8_all, append_assoc, length-append, length-drop, get_or-drop, take-append-drop, length-take-le}
 use Rattle.std.specs.Str.{chars, IsCharBoundary}
-use Rattle.std.specs.Str.Pattern.{HasTextAt}
 use Rattle.std.proofs.Math.Seq.{drop-append_seam}
 use Rattle.std.proofs.lemmas.Bool.{cases_lt}
-use Rattle.std.proofs.lemmas.Str.{IsUtf8-take, IsUtf8-drop, IsCharBoundary-before_ascii, chars-append, encodes-chars, encodes-append, length-le-encodes}
-use Rattle.qz_lexer.specs.Runs.{IsRun, Skips, is_of_line}
-use Rattle.qz_lexer.specs.Fronts.{Takes, Lacks}
+use Rattle.std.proofs.lemmas.Str.{IsUtf8-take, IsUtf8-drop, IsCharBoundary-before_ascii, chars-append, length-le-encodes}
+use Rattle.qz_lexer.specs.Runs.{Takes, Lacks, Skips, is_of_line}
 use Rattle.qz_lexer.specs.Blanks.{IsLineComment, IsBlockComment}
 use Rattle.qz_lexer.proofs.ListLemmas.{longer_front}
 use Rattle.qz_lexer.proofs.TextLemmas.{bytes_split, chars_two, encodes_two}
@@ -84,11 +82,11 @@ module _ (bytes : List ℕ) (at next : ℕ) (u : IsUtf8 bytes) (split : drop at 
   end_first none before more e =
       elim (cases_lt (length before) (length (chars (take at bytes)))) [
         | inl shorter ↦
-          let longer = longer_front before (chars (take at bytes)) (42 ∷ 47 ∷ more) (42 ∷ 47 ∷ chars (drop next bytes)) (sym e ∙ end_chars) shorter in
-          let front : take at bytes ≡ encode_utf8_all before ++ encode_utf8_all (longer.0 ∷ longer.1) =
-              bytes_split (take at bytes) before (longer.0 ∷ longer.1) (IsUtf8-take bytes at u cut) longer.2 in
-          absurd (none (length (encode_utf8_all before))
-          (omega (arith, ap length front, length-append (encode_utf8_all before) (encode_utf8_all (longer.0 ∷ longer.1)), length-le-encodes (longer.0 ∷ longer.1), length-take-le at bytes (omega (arith, at_in))))
-          (encode_utf8_all more) (drop_before bytes before more u e))
+            let longer = longer_front before (chars (take at bytes)) (42 ∷ 47 ∷ more) (42 ∷ 47 ∷ chars (drop next bytes)) (sym e ∙ end_chars) shorter in
+            let front : take at bytes ≡ encode_utf8_all before ++ encode_utf8_all (longer.0 ∷ longer.1) =
+            bytes_split (take at bytes) before (longer.0 ∷ longer.1) (IsUtf8-take bytes at u cut) longer.2 in
+            absurd (none (length (encode_utf8_all before))
+            (omega (arith, ap length front, length-append (encode_utf8_all before) (encode_utf8_all (longer.0 ∷ longer.1)), length-le-encodes (longer.0 ∷ longer.1), length-take-le at bytes (omega (arith, at_in))))
+            (encode_utf8_all more) (drop_before bytes before more u e))
         | inr at_most ↦ at_most
       ]

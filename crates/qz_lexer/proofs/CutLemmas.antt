@@ -1,20 +1,17 @@
 -- A text is cut into pieces in one way.
-use Rattle.std.proofs.Common.{◌≡◌, ◌≢◌, ℕ, ◌+◌, ◌<◌, ◌≤◌, Bool, true, false, ◌&&◌, cond, List, [], ◌∷◌, ◌++◌, map, length, Option, Some, None, Result, Ok, Err, encode_utf8_all, sym, refl, ap, ◌∙◌, subst, arith, append_assoc, length-append}
+use Rattle.std.proofs.Common.{◌≡◌, ℕ, Bool, false, ◌&&◌, cond, List, [], ◌∷◌, ◌++◌, Option, Some, None, Result, Ok, Err, sym, refl, ap, ◌∙◌, subst, arith}
 use Rattle.std.specs.List.{list_all, flat_map}
 use Rattle.std.specs.Char.{is_ascii_digit}
 use Rattle.std.proofs.lemmas.Bool.{and_right}
-use Rattle.std.proofs.lemmas.Str.{encodes-append}
-use Rattle.unicode_ident.specs.Ident.{is_xid_start}
 use Rattle.qz_lexer.specs.declared.starts.Start.{Start}
 use Rattle.qz_lexer.specs.declared.starts.Start.TheVariants.{Space, Digit, Slash, Letter, Other}
 use Rattle.qz_lexer.specs.declared.tokens.TokenKind.{TokenKind}
 use Rattle.qz_lexer.specs.declared.tokens.TokenKind.TheVariants.{Name, Keyword, Number, Literal, Sign}
-use Rattle.qz_lexer.specs.Fronts.{Takes, Lacks}
 use Rattle.qz_lexer.specs.Blanks.{space, comment}
-use Rattle.qz_lexer.specs.Words.{is_reserved, IsLiteral, IsValue}
+use Rattle.qz_lexer.specs.Words.{is_reserved, IsLiteral}
 use Rattle.qz_lexer.specs.Starts.{start_of}
-use Rattle.qz_lexer.specs.Pieces.{IsPiece, IsLongest, Piece, Cuts, BeginsWith, NoneBegins}
-use Rattle.qz_lexer.specs.Lexemes.{Lexeme, lexeme_at, lexemes, byte_count, Lexes}
+use Rattle.qz_lexer.specs.Pieces.{IsPiece, IsLongest, Piece, Cuts, NoneBegins}
+use Rattle.qz_lexer.specs.Lexemes.{Lexeme, lexemes, byte_count, Lexes}
 use Rattle.qz_lexer.proofs.ListLemmas.{same_fronts}
 use Rattle.qz_lexer.proofs.RunLemmas.{run_head}
 use Rattle.qz_lexer.proofs.StartLemmas.{space_piece_start, comment_start, letter_start, digit_start, literal_start, sign_start, double_single, no_empty_piece}

@@ -1,11 +1,10 @@
 -- How far a text has been cut, and with which tokens.
-use Rattle.std.proofs.Common.{◌≡◌, ◌≢◌, ℕ, ◌+◌, ◌-◌, ◌<◌, ◌≤◌, List, [], ◌∷◌, ◌++◌, map, length, Option, Some, None, Result, Ok, Err, encode_utf8_all, IsUtf8, sym, refl, ap, ◌∙◌, subst, arith, append_assoc, length-append, add_assoc, add-zero, zero-add}
+use Rattle.std.proofs.Common.{◌≡◌, ◌≢◌, ℕ, ◌+◌, ◌<◌, ◌≤◌, List, [], ◌∷◌, ◌++◌, length, Option, Ok, Err, encode_utf8_all, IsUtf8, sym, refl, ap, ◌∙◌, subst, arith, append_assoc, length-append, add-zero, zero-add}
 use Rattle.std.specs.List.{flat_map}
 use Rattle.std.specs.Str.{chars}
 use Rattle.std.proofs.lemmas.List.{append-nil}
 use Rattle.std.proofs.lemmas.Str.{encodes-append, length-le-encodes}
 use Rattle.qz_lexer.specs.declared.tokens.TokenKind.{TokenKind}
-use Rattle.qz_lexer.specs.Fronts.{Takes}
 use Rattle.qz_lexer.specs.Pieces.{IsPiece, IsLongest, Piece, Cuts, BeginsWith, NoneBegins}
 use Rattle.qz_lexer.specs.Lexemes.{Lexeme, lexeme_at, lexemes, byte_count, Lexes}
 use Rattle.qz_lexer.proofs.StartLemmas.{no_empty_piece}
@@ -38,7 +37,7 @@ lexemes_more offset (first ∷ pieces) piece =
     let head = lexeme_at offset first.kind (encode_utf8_all first.text) in
     let next = offset + byte_count first.text in
     let sum : next + byte_count (texts pieces) ≡ offset + byte_count (texts (first ∷ pieces)) =
-        omega (arith, byte_count-append first.text (texts pieces)) in
+    omega (arith, byte_count-append first.text (texts pieces)) in
     ap (λ l. head ++ l) (lexemes_more next pieces piece)
     ∙ sym (append_assoc head (lexemes next pieces) (lexeme_at (next + byte_count (texts pieces)) piece.kind (encode_utf8_all piece.text)))
     ∙ ap (λ o. (head ++ lexemes next pieces) ++ lexeme_at o piece.kind (encode_utf8_all piece.text)) sum
@@ -52,17 +51,9 @@ pub record CutSoFar (text rest : List ℕ) (tokens : List Lexeme) : Type 0 where
 pub cut_none : (text : List ℕ) → CutSoFar text text []
 cut_none text = record { pieces = []; cuts = refl; tokens_are = refl }
 
--- how many bytes the pieces so far take
-pub offset_is : (bs rest : List ℕ) (tokens : List Lexeme) → IsUtf8 bs → IsUtf8 rest → (so_far : CutSoFar (chars bs) (chars rest) tokens) → length bs - length rest ≡ byte_count (texts so_far.pieces)
-offset_is bs rest tokens u v so_far =
-    let split = bytes_before bs rest (texts so_far.pieces) u v (cuts_text (chars bs) so_far.pieces (chars rest) so_far.cuts) in
-    omega (arith, ap length split, length-append (encode_utf8_all (texts so_far.pieces)) rest)
-
--- what is left is no longer than the text
-pub rest_le : (bs rest : List ℕ) (tokens : List Lexeme) → IsUtf8 bs → IsUtf8 rest → CutSoFar (chars bs) (chars rest) tokens → length rest ≤ length bs
-rest_le bs rest tokens u v so_far =
-    let split = bytes_before bs rest (texts so_far.pieces) u v (cuts_text (chars bs) so_far.pieces (chars rest) so_far.cuts) in
-    omega (arith, ap length split, length-append (encode_utf8_all (texts so_far.pieces)) rest)
+-- what has been cut, and what is left
+pub split_so_far : {text rest : List ℕ} {tokens : List Lexeme} (so_far : CutSoFar text rest tokens) → text ≡ texts so_far.pieces ++ rest
+split_so_far {text} {rest} so_far = cuts_text text so_far.pieces rest so_far.cuts
 
 -- one more piece, and the token that it is
 pub cut_more : (text rest after : List ℕ) (tokens more : List Lexeme) (kind : Option TokenKind) → (so_far : CutSoFar text rest tokens) → (begins : BeginsWith rest kind after) → more ≡ tokens ++ lexeme_at (byte_count (texts so_far.pieces)) kind (encode_utf8_all begins.front) → CutSoFar text after more

@@ -7,4 +7,6 @@ pub mod CommentLemmas
 pub mod ValueLemmas
 pub mod PieceLemmas
 pub mod CutLemmas
+pub mod ExistLemmas
+pub mod SliceLemmas
 pub mod LexLemmas

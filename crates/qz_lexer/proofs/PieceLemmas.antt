@@ -1,21 +1,18 @@
 -- Which piece is the longest, sort by sort.
-use Rattle.std.proofs.Common.{◌≡◌, ℕ, ◌+◌, ◌<◌, ◌≤◌, Bool, true, false, not, ◌&&◌, ◌||◌, List, [], ◌∷◌, ◌++◌, length, IsTrue, IsFalse, Option, Some, None, sym, refl, ap, ◌∙◌, subst, arith, codes, append_assoc, length-append}
+use Rattle.std.proofs.Common.{◌≡◌, ℕ, ◌<◌, ◌≤◌, true, false, List, [], ◌∷◌, ◌++◌, length, Option, Some, None, sym, refl, ap, ◌∙◌, subst, arith, codes, append_assoc, length-append}
 use Rattle.std.specs.Char.{is_ascii_digit}
 use Rattle.std.proofs.lemmas.Bool.{both_ways}
-use Rattle.unicode_ident.specs.Ident.{is_xid_start, is_xid_continue}
+use Rattle.unicode_ident.specs.Ident.{is_xid_continue}
 use Rattle.unicode_ident.proofs.IdentLemmas.{is_xid_start-is_xid_continue}
-use Rattle.qz_lexer.specs.declared.starts.Start.{Start}
 use Rattle.qz_lexer.specs.declared.starts.Start.TheVariants.{Space, Digit, Slash, Letter, Other}
 use Rattle.qz_lexer.specs.declared.tokens.TokenKind.{TokenKind}
 use Rattle.qz_lexer.specs.declared.tokens.TokenKind.TheVariants.{Name, Keyword, Number, Literal, Sign}
 use Rattle.std.proofs.lemmas.List.{append_cancel_left}
-use Rattle.qz_lexer.specs.Runs.{IsRun, Skips, is_of_line}
-use Rattle.qz_lexer.specs.Fronts.{Takes, Lacks}
-use Rattle.qz_lexer.specs.Blanks.{is_space, IsSpace, IsBlank, space, comment, IsComment, line, block, IsLineComment, IsBlockComment}
+use Rattle.qz_lexer.specs.Runs.{Takes, Lacks, IsRun, is_of_line}
+use Rattle.qz_lexer.specs.Blanks.{IsSpace, space, comment, IsComment, line, block, IsLineComment, IsBlockComment}
 use Rattle.qz_lexer.specs.Words.{is_single_sign, is_double_sign, is_sign, is_reserved, IsWord, IsLiteral, IsNumber, IsValue}
-use Rattle.qz_lexer.specs.Pieces.{IsPiece, IsLongest, Piece, BeginsWith, NoneBegins}
-use Rattle.qz_lexer.specs.Starts.{start_of, StartsWith}
-use Rattle.qz_lexer.proofs.ListLemmas.{same_fronts}
+use Rattle.qz_lexer.specs.Pieces.{IsPiece, BeginsWith, NoneBegins}
+use Rattle.qz_lexer.specs.Starts.{StartsWith}
 use Rattle.qz_lexer.proofs.RunLemmas.{run_same, run_begins, run_tail}
 use Rattle.qz_lexer.proofs.WordLemmas.{word_run}
 use Rattle.qz_lexer.proofs.StartLemmas.{misfit, front_start, comment_start, space_piece_start, no_empty_piece, space_is, digit_is, letter_is, double_single}
@@ -63,17 +60,17 @@ begins_space text after c starts e = record {
 line_same : (a b r s : List ℕ) → IsLineComment a r → IsLineComment b s → a ++ r ≡ b ++ s → a ≡ b
 line_same a b r s is other e =
     let bodies : is.body ++ r ≡ other.body ++ s =
-        (let split : codes "//" ++ (is.body ++ r) ≡ codes "//" ++ (other.body ++ s) = ap (λ l. l ++ r) (sym is.spelled) ∙ e ∙ ap (λ l. l ++ s) other.spelled in
-        append_cancel_left (codes "//") _ _ split) in
+    (let split : codes "//" ++ (is.body ++ r) ≡ codes "//" ++ (other.body ++ s) = ap (λ l. l ++ r) (sym is.spelled) ∙ e ∙ ap (λ l. l ++ s) other.spelled in
+    append_cancel_left (codes "//") _ _ split) in
     is.spelled ∙ ap (λ l. codes "//" ++ l) (run_same is_of_line is.body other.body r s is.whole other.whole bodies).0 ∙ sym other.spelled
 
 block_le : (a b r s : List ℕ) → IsBlockComment a r → IsBlockComment b s → a ++ r ≡ b ++ s → length a ≤ length b
 block_le a b r s is other e =
     let whole : codes "/*" ++ ((is.body ++ codes "*/") ++ r) ≡ codes "/*" ++ ((other.body ++ codes "*/") ++ s) =
-        ap (λ l. l ++ r) (sym is.spelled) ∙ e ∙ ap (λ l. l ++ s) other.spelled in
+    ap (λ l. l ++ r) (sym is.spelled) ∙ e ∙ ap (λ l. l ++ s) other.spelled in
     let inside : (is.body ++ codes "*/") ++ r ≡ (other.body ++ codes "*/") ++ s = append_cancel_left (codes "/*") _ _ whole in
     let bodies : is.body ++ (codes "*/" ++ r) ≡ other.body ++ (codes "*/" ++ s) =
-        sym (append_assoc is.body (codes "*/") r) ∙ inside ∙ append_assoc other.body (codes "*/") s in
+    sym (append_assoc is.body (codes "*/") r) ∙ inside ∙ append_assoc other.body (codes "*/") s in
     let shorter = is.next other.body s bodies in
     omega (arith, ap length is.spelled, ap length other.spelled, length-append is.body (codes "*/"), length-append other.body (codes "*/"))
 
@@ -137,8 +134,8 @@ some_digits (c ∷ text) starts digits after split whole =
 value_same : (a b r s : List ℕ) → IsValue a r → IsValue b s → a ++ r ≡ b ++ s → a ≡ b
 value_same a b r s is other e =
     let digits : is.digits ++ r ≡ other.digits ++ s =
-        (let split : codes "'d" ++ (is.digits ++ r) ≡ codes "'d" ++ (other.digits ++ s) = ap (λ l. l ++ r) (sym is.spelled) ∙ e ∙ ap (λ l. l ++ s) other.spelled in
-        append_cancel_left (codes "'d") _ _ split) in
+    (let split : codes "'d" ++ (is.digits ++ r) ≡ codes "'d" ++ (other.digits ++ s) = ap (λ l. l ++ r) (sym is.spelled) ∙ e ∙ ap (λ l. l ++ s) other.spelled in
+    append_cancel_left (codes "'d") _ _ split) in
     is.spelled ∙ ap (λ l. codes "'d" ++ l) (run_same is_ascii_digit is.digits other.digits r s is.number.0 other.number.0 digits).0 ∙ sym other.spelled
 
 module _ (text digits after : List ℕ) (starts : StartsWith Digit text) (split : text ≡ digits ++ after) (whole : IsRun is_ascii_digit digits after) where

@@ -1,5 +1,5 @@
 -- What a piece's first character tells of the piece.
-use Rattle.std.proofs.Common.{◌≡◌, ℕ, ◌+◌, ◌<◌, ◌≤◌, Bool, true, false, not, ◌&&◌, ◌||◌, ◌==◌, cond, nat_lt, List, [], ◌∷◌, ◌++◌, length, IsTrue, IsFalse, Option, Some, None, sym, refl, ap, ◌∙◌, subst, arith, rules, codes, inl, inr}
+use Rattle.std.proofs.Common.{◌≡◌, ℕ, ◌<◌, ◌≤◌, Bool, true, false, ◌&&◌, ◌||◌, ◌==◌, cond, nat_lt, List, [], ◌∷◌, ◌++◌, Option, Some, None, sym, refl, ap, ◌∙◌, arith, rules, codes, inl, inr}
 use Rattle.std.specs.List.{list_all, list_any}
 use Rattle.std.specs.Char.{is_ascii_digit, is_ascii_alphabetic}
 use Rattle.std.proofs.lemmas.Bool.{and_parts, and_right, or_cases, both_ways, eqb-true, ne_eqb, ltb-true, lt-leb, agree_below, agree_below_at, cases_lt}
@@ -9,8 +9,8 @@ use Rattle.qz_lexer.specs.declared.starts.Start.{Start}
 use Rattle.qz_lexer.specs.declared.starts.Start.TheVariants.{Space, Digit, Slash, Letter, Other}
 use Rattle.qz_lexer.specs.declared.tokens.TokenKind.{TokenKind}
 use Rattle.qz_lexer.specs.declared.tokens.TokenKind.TheVariants.{Name, Keyword, Number, Literal, Sign}
-use Rattle.qz_lexer.specs.Blanks.{is_space, IsSpace, IsBlank, space, comment, IsComment, line, block}
-use Rattle.qz_lexer.specs.Words.{is_single_sign, is_double_sign, is_sign, IsLiteral, IsNumber}
+use Rattle.qz_lexer.specs.Blanks.{is_space, IsSpace, space, comment, IsComment, line, block}
+use Rattle.qz_lexer.specs.Words.{is_single_sign, is_double_sign, IsLiteral, IsNumber}
 use Rattle.qz_lexer.specs.Pieces.{IsPiece}
 use Rattle.qz_lexer.specs.Starts.{start_of, StartsWith}
 use Rattle.qz_lexer.proofs.RunLemmas.{run_head}

@@ -1,9 +1,8 @@
 -- The second part of a literal.
-use Rattle.std.proofs.Common.{◌≡◌, ℕ, ◌+◌, ◌<◌, ◌≤◌, List, [], ◌∷◌, ◌++◌, length, sym, refl, ap, ◌∙◌, subst, arith}
+use Rattle.std.proofs.Common.{◌≡◌, ℕ, ◌≤◌, List, ◌∷◌, ◌++◌, length, sym, refl, ap, ◌∙◌, subst}
 use Rattle.std.specs.Char.{is_ascii_digit}
-use Rattle.qz_lexer.specs.Runs.{IsRun, Skips}
-use Rattle.qz_lexer.specs.Fronts.{Takes, Lacks}
-use Rattle.qz_lexer.specs.Words.{IsNumber, IsValue}
+use Rattle.qz_lexer.specs.Runs.{Takes, Lacks, Skips}
+use Rattle.qz_lexer.specs.Words.{IsValue}
 use Rattle.qz_lexer.proofs.RunLemmas.{run_same}
 
 pub no_value_start : (text : List ℕ) → ((rest : List ℕ) → text ≡ 39 ∷ 100 ∷ rest → ⊥) → Lacks IsValue text

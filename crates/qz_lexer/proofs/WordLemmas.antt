@@ -1,13 +1,12 @@
 -- Reserved words, by bytes and by characters; and what a name begins with.
-use Rattle.std.proofs.Common.{◌≡◌, ℕ, ◌+◌, ◌<◌, ◌≤◌, Bool, true, false, ◌&&◌, ◌||◌, nat_lt, List, [], ◌∷◌, ◌++◌, length, IsTrue, IsFalse, IsUtf8, sym, refl, ap, ◌∙◌, subst, arith, bytes_eq, codes, encode_utf8_all, Decides}
+use Rattle.std.proofs.Common.{◌≡◌, ℕ, ◌≤◌, Bool, true, ◌&&◌, ◌||◌, nat_lt, List, [], ◌∷◌, ◌++◌, length, IsUtf8, sym, refl, ap, ◌∙◌, bytes_eq, encode_utf8_all, Decides}
 use Rattle.std.specs.List.{list_all, list_any}
-use Rattle.std.specs.Char.{encode_utf8}
 use Rattle.std.specs.Str.{chars}
 use Rattle.std.proofs.lemmas.Bool.{and_parts, ltb-true}
 use Rattle.std.proofs.lemmas.Bool.Decides.{same_from_decides}
 use Rattle.std.proofs.lemmas.Slice.Eq.{bytes_eq-Decides}
 use Rattle.std.proofs.lemmas.Str.{encode_ascii, chars_from_encodes, encodes-chars}
-use Rattle.unicode_ident.specs.Ident.{is_xid_start, is_xid_continue}
+use Rattle.unicode_ident.specs.Ident.{is_xid_continue}
 use Rattle.unicode_ident.proofs.IdentLemmas.{is_xid_start-is_xid_continue}
 use Rattle.qz_lexer.specs.Runs.{IsRun}
 use Rattle.qz_lexer.specs.Words.{IsWord, is_reserved, reserved_words}

@@ -1,5 +1,5 @@
 -- The tokens of a text, and the first place where no piece begins.
-use Rattle.std.specs.Prelude.{◌≡◌, ◌≢◌, ℕ, ◌+◌, List, [], ◌∷◌, ◌++◌, map, length, Option, Some, None, Result, Ok, Err, encode_utf8_all}
+use Rattle.std.specs.Prelude.{◌≡◌, ◌≢◌, ℕ, ◌+◌, List, [], ◌∷◌, ◌++◌, map, length, Option, Some, None, Result, Ok, Err, encode_utf8_all, slice_range}
 use Rattle.std.specs.List.{flat_map}
 use Rattle.qz_lexer.specs.declared.tokens.TokenKind.{TokenKind}
 use Rattle.qz_lexer.specs.declared.tokens.Token.{Token}
@@ -44,6 +44,12 @@ outcome_of tokens (Ok x) = Some (Ok (map lexeme (tokens x)))
 outcome_of tokens (Err (At offset)) = Some (Err offset)
 outcome_of tokens (Err Memory) = None
 
--- a text has one outcome: the pieces that it begins with are determined, and their kinds
-abbrev pub HasOneOutcome : List ℕ → Type 0
-HasOneOutcome text = (a b : Result (List Lexeme) ℕ) → Lexes text a → Lexes text b → a ≡ b
+-- a text has exactly one outcome: the pieces that it begins with are determined, and so are their kinds
+pub record HasOneOutcome (text : List ℕ) : Type 0 where
+  pub outcome : Result (List Lexeme) ℕ
+  pub has : Lexes text outcome
+  pub only : (other : Result (List Lexeme) ℕ) → Lexes text other → other ≡ outcome
+
+-- the token is the slice of the text's bytes at its offset
+abbrev pub IsSliceOf : List ℕ → Lexeme → Type 0
+IsSliceOf bytes token = slice_range bytes token.offset (token.offset + length token.text) ≡ token.text

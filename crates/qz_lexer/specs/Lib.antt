@@ -1,5 +1,4 @@
 pub mod Runs
-pub mod Fronts
 pub mod Words
 pub mod Blanks
 pub mod Pieces

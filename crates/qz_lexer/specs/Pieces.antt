@@ -3,10 +3,8 @@ use Rattle.std.specs.Prelude.{◌≡◌, ℕ, ◌≤◌, List, [], ◌∷◌, �
 use Rattle.qz_lexer.specs.declared.tokens.TokenKind.{TokenKind}
 use Rattle.qz_lexer.specs.declared.tokens.TokenKind.TheVariants.{Name, Keyword, Number, Literal, Sign}
 use Rattle.qz_lexer.specs.Words.{IsWord, is_reserved, IsNumber, IsLiteral, is_sign}
-use Rattle.std.specs.Str.{chars}
-use Rattle.qz_lexer.specs.declared.pieces.Front.{Front}
 use Rattle.qz_lexer.specs.Blanks.{IsBlank}
-use Rattle.qz_lexer.specs.Fronts.{Takes, Lacks}
+use Rattle.qz_lexer.specs.Runs.{Takes, Lacks}
 
 -- the text, before the rest, is a token of the kind; or white space or a comment, for no kind
 abbrev pub IsPiece : Option TokenKind → List ℕ → List ℕ → Type 0
@@ -41,8 +39,3 @@ NoneBegins text = (kind : Option TokenKind) → Lacks (IsPiece kind) text
 -- the text begins with the longest piece of this kind, and the rest follows
 abbrev pub BeginsWith : List ℕ → Option TokenKind → List ℕ → Type 0
 BeginsWith text kind rest = Takes (λ piece after. IsLongest (record { kind = kind; text = piece }) after) text rest
-
--- what was found at the front of the text: the kind of the longest piece that begins there, and the characters after it
-abbrev pub Finds : List ℕ → Option Front → Type 0
-Finds text None = NoneBegins text
-Finds text (Some front) = BeginsWith text front.kind (chars front.after.now)

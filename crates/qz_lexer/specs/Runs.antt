@@ -1,10 +1,20 @@
--- Runs of characters. A character is its code.
+-- What a text begins with: a front of it by a description, and a run of characters. A character is its code.
 use Rattle.std.specs.Prelude.{◌≡◌, ℕ, Bool, not, List, [], ◌∷◌, ◌++◌, length, IsTrue, IsFalse, ◌==◌}
 use Rattle.std.specs.List.{list_all}
 use Rattle.std.specs.Char.{is_ascii_digit}
 use Rattle.unicode_ident.specs.Ident.{is_xid_continue}
 use Rattle.qz_lexer.specs.declared.runs.Run.{Run}
 use Rattle.qz_lexer.specs.declared.runs.Run.TheVariants.{Digits, Word, Line}
+
+-- the text is a front as described, and then the rest
+pub record Takes (Is : List ℕ → List ℕ → Type 0) (text rest : List ℕ) : Type 0 where
+  pub front : List ℕ
+  pub split : text ≡ front ++ rest
+  pub is : Is front rest
+
+-- no front of the text is as described
+abbrev pub Lacks : (List ℕ → List ℕ → Type 0) → List ℕ → Type 0
+Lacks Is text = (front rest : List ℕ) → front ++ rest ≡ text → Is front rest → ⊥
 
 -- the first character, if there is one, doesn't pass
 abbrev pub Stops : (ℕ → Bool) → List ℕ → Type 0

@@ -2,7 +2,7 @@
 
 ghost use Rattle.std.specs.Prelude.{MatchOption};
 ghost use Rattle.std.specs.Str.{chars};
-ghost use Rattle.qz_lexer.specs.Fronts.{Takes, Lacks};
+ghost use Rattle.qz_lexer.specs.Runs.{Takes, Lacks};
 ghost use Rattle.qz_lexer.specs.Blanks.{IsLineComment, IsBlockComment, IsComment};
 
 use crate::runs::Run;

@@ -1,17 +1,15 @@
 //! The piece that a text begins with: a token, white space or a comment.
 
 ghost use Rattle.std.specs.Str.{chars};
-ghost use Rattle.qz_lexer.specs.Fronts.{Takes, Lacks};
-ghost use Rattle.qz_lexer.specs.Pieces.{Finds};
-ghost use Rattle.qz_lexer.specs.Starts.{StartsWith};
+ghost use Rattle.qz_lexer.specs.Starts.{StartsWith, Finds};
 ghost use Rattle.qz_lexer.specs.declared.starts.Start.TheVariants.{Digit, Slash, Letter, Other};
 
 use crate::comments::comment;
 use crate::runs::{Run, first_char, text_before};
 use crate::starts::Start;
 use crate::tokens::TokenKind;
-use crate::words::{is_double_sign, is_reserved, is_single_sign};
 use crate::values::value;
+use crate::words::{is_double_sign, is_reserved, is_single_sign};
 
 /// The longest piece that begins a text.
 #[derive(Drop, Clone, Copy)]

@@ -1,6 +1,6 @@
 //! Runs of characters of one sort.
 
-ghost use Rattle.std.specs.Prelude.{◌≡◌, ℕ, List, [], ◌∷◌, ◌++◌, MatchOption, encode_utf8_all};
+ghost use Rattle.std.specs.Prelude.{◌≡◌, ℕ, List, [], ◌∷◌, ◌≤◌, ◌++◌, length, MatchOption, encode_utf8_all};
 ghost use Rattle.std.specs.Str.{chars};
 ghost use Rattle.qz_lexer.specs.Runs.{Skips, accepts};
 
@@ -18,6 +18,7 @@ pub(crate) fn first_char(text: &str) -> Option<(char, &str)>
 /// The front of the text that ends where the rest begins.
 pub(crate) fn text_before<'t>(text: &'t str, rest: &str) -> &'t str
     requires { (front : List ℕ) × (chars text.now ≡ front ++ chars rest.now) }
+    ensures within { length result.now ≤ length text.now }
     ensures bytes { (front : List ℕ) → chars text.now ≡ front ++ chars rest.now → result.now ≡ encode_utf8_all front }
     ensures characters { (front : List ℕ) → chars text.now ≡ front ++ chars rest.now → chars result.now ≡ front }
 {

@@ -2,7 +2,7 @@
 
 ghost use Rattle.std.specs.Prelude.{MatchOption};
 ghost use Rattle.std.specs.Str.{chars};
-ghost use Rattle.qz_lexer.specs.Fronts.{Takes, Lacks};
+ghost use Rattle.qz_lexer.specs.Runs.{Takes, Lacks};
 ghost use Rattle.qz_lexer.specs.Words.{IsValue};
 
 use crate::runs::Run;

@@ -6,9 +6,37 @@ ghost use Rattle.qz_lexer.specs.Words.{is_reserved, is_single_sign, is_double_si
 
 /// Words that are no names.
 const RESERVED_WORDS: [&str; 31] = [
-    "module", "event", "mem", "bool", "bv", "true", "false", "nothing", "pause", "halt", "await",
-    "immediate", "next", "emit", "if", "else", "do", "while", "loop", "every", "weak", "abort",
-    "suspend", "when", "assert", "assume", "always", "choose", "during", "final", "sustain",
+    "module",
+    "event",
+    "mem",
+    "bool",
+    "bv",
+    "true",
+    "false",
+    "nothing",
+    "pause",
+    "halt",
+    "await",
+    "immediate",
+    "next",
+    "emit",
+    "if",
+    "else",
+    "do",
+    "while",
+    "loop",
+    "every",
+    "weak",
+    "abort",
+    "suspend",
+    "when",
+    "assert",
+    "assume",
+    "always",
+    "choose",
+    "during",
+    "final",
+    "sustain",
 ];
 
 /// Whether the word is reserved.
@@ -25,8 +53,26 @@ pub(crate) fn is_single_sign(c: char) -> bool
 {
     matches!(
         c,
-        '(' | ')' | '{' | '}' | '[' | ']' | ',' | ';' | ':' | '?' | '!' | '~' | '@' | '+' | '-'
-            | '&' | '|' | '^' | '=' | '<' | '>'
+        '(' | ')'
+            | '{'
+            | '}'
+            | '['
+            | ']'
+            | ','
+            | ';'
+            | ':'
+            | '?'
+            | '!'
+            | '~'
+            | '@'
+            | '+'
+            | '-'
+            | '&'
+            | '|'
+            | '^'
+            | '='
+            | '<'
+            | '>'
     )
 }
 

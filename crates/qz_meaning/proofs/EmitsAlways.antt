@@ -1,13 +1,11 @@
-use Rattle.std.proofs.Common.{◌≡◌, ℕ, List, [], ◌∷◌, refl, true, false}
-use Rattle.qz_values.specs.declared.Ty.TheVariants as ty
-use Rattle.qz_values.specs.declared.Know.{Know}
+use Rattle.std.proofs.Common.{◌≡◌, [], ◌∷◌, refl, false}
 use Rattle.qz_values.specs.declared.Know.TheVariants.{Known}
-use Rattle.qz_values.specs.Values.{yes, no}
+use Rattle.qz_values.specs.Values.{yes}
 use Rattle.qz_syntax.specs.declared.places.Later.TheVariants as later
 use Rattle.qz_meaning.specs.Instances.{formal_instance}
 use Rattle.qz_meaning.specs.Behaviors.{Write}
-use Rattle.qz_meaning.specs.Settling.{Configuration, Environment, step_writes, step_met}
-use Rattle.qz_meaning.specs.MacroSteps.{initial, IsStep}
+use Rattle.qz_meaning.specs.Settling.{Environment, step_writes}
+use Rattle.qz_meaning.specs.MacroSteps.{initial}
 use Rattle.qz_meaning.specs.Examples.{always_emitted, at_its_pause, EmitsAlways}
 use Rattle.qz_meaning.proofs.Walking.{walking}
 use Rattle.qz_meaning.proofs.Evaluating.{evaluating}
@@ -38,13 +36,13 @@ emits_always = record {
       settled = simp (walking, evaluating) (record { now = refl; later = refl }, tt);
     };
     outputs_are = refl;
-    next_is = simp (walking, evaluating);
+    next_is = simp walking;
   };
   again = record {
     values = all_yes;
     solution = record {
       inputs = refl;
-      plain = simp (walking, evaluating, resting) (record { now = tt; later = tt }, tt);
+      plain = simp (walking, resting) (record { now = tt; later = tt }, tt);
       settled = simp (walking, evaluating, resting) (record { now = refl; later = refl }, tt);
     };
     outputs_are = refl;

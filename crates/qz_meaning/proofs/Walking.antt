@@ -1,5 +1,5 @@
 -- What each form of statement does, as an equation to rewrite by.
-use Rattle.std.proofs.Common.{◌≡◌, ℕ, List, Option, Bool, true, false, map, sym, ap, ◌∙◌}
+use Rattle.std.proofs.Common.{◌≡◌, ℕ, List, Option, true, false, map, sym, ap, ◌∙◌}
 use Rattle.qz_syntax.specs.declared.expressions.Var.{Var}
 use Rattle.qz_syntax.specs.declared.expressions.Expr.{Expr}
 use Rattle.qz_syntax.specs.declared.statements.Kind.{Kind}

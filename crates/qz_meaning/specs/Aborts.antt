@@ -1,5 +1,5 @@
 -- The four aborts: strong or weak, immediate or not.
-use Rattle.std.specs.Prelude.{ℕ, Bool, true, false, List, Option, None, if◌then◌else◌}
+use Rattle.std.specs.Prelude.{Option, None, if◌then◌else◌}
 use Rattle.std.specs.Option.{option_map}
 use Rattle.qz_values.specs.declared.Know.{Know}
 use Rattle.qz_values.specs.Knowledge.{both, either, opposite, knows_yes}
@@ -8,9 +8,9 @@ use Rattle.qz_syntax.specs.declared.statements.Kind.{Kind}
 use Rattle.qz_syntax.specs.declared.places.Residual.{Residual, out-Residual}
 use Rattle.qz_syntax.specs.declared.places.Residual.TheVariants.{InBody}
 use Rattle.qz_meaning.specs.Residuals.{inner}
-use Rattle.qz_meaning.specs.Scenes.{Scene, Context}
+use Rattle.qz_meaning.specs.Scenes.{Scene}
 use Rattle.qz_meaning.specs.Expressions.{value_here}
-use Rattle.qz_meaning.specs.Behaviors.{Write, Behavior}
+use Rattle.qz_meaning.specs.Behaviors.{Behavior}
 use Rattle.qz_meaning.specs.Loops.{fits_in_body}
 
 -- a strong preemption lets its body act only where the condition doesn't hold; a weak one lets it act
@@ -29,13 +29,13 @@ unless_left condition inside = if knows_yes condition then None else option_map 
 abbrev pub abortion : Scene → Kind → Behavior → Expr → Behavior
 abortion scene kind body condition = record {
   ends = λ ctx m.
-    (if kind.immediate then either (value_here scene ctx condition) (body.ends ctx m) else body.ends ctx m);
+      (if kind.immediate then either (value_here scene ctx condition) (body.ends ctx m) else body.ends ctx m);
   start = λ ctx g m. body.start ctx (start_guard kind (value_here scene ctx condition) g) m;
   ended = λ ctx r. either (value_here scene ctx condition) (body.ended ctx (inner r));
   resume = λ ctx r g. body.resume ctx (inner r) (refused kind (value_here scene ctx condition) g);
   rest = λ ctx m.
-    (if kind.immediate then unless_left (value_here scene ctx condition) (body.rest ctx m)
-    else option_map (λ inside. InBody inside) (body.rest ctx m));
+      (if kind.immediate then unless_left (value_here scene ctx condition) (body.rest ctx m)
+      else option_map (λ inside. InBody inside) (body.rest ctx m));
   after = λ ctx r. unless_left (value_here scene ctx condition) (body.after ctx (inner r));
   kept = λ ctx r. InBody (body.kept ctx (inner r));
   met_on_start = λ m. body.met_on_start m;

@@ -1,6 +1,6 @@
 -- What a statement does on starting and on resuming. One record holds both walks and where control goes,
 -- so that an interpreter and a compiler speak of the same thing.
-use Rattle.std.specs.Prelude.{ℕ, Bool, true, false, List, [], Option, None}
+use Rattle.std.specs.Prelude.{ℕ, Bool, false, List, [], Option, None}
 use Rattle.qz_values.specs.declared.Know.{Know}
 use Rattle.qz_values.specs.declared.Know.TheVariants.{Known}
 use Rattle.qz_values.specs.Values.{yes, no}

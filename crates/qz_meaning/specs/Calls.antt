@@ -1,15 +1,16 @@
 -- Calls, as the module that makes them sees them, and callees' bodies put in for them.
-use Rattle.std.specs.Prelude.{ℕ, ◌==◌, Bool, true, false, List, [], Option, Some, None, if◌then◌else◌}
+use Rattle.std.specs.Prelude.{ℕ, ◌==◌, Bool, false, List, Option, Some, None, if◌then◌else◌}
 use Rattle.qz_values.specs.declared.Know.{Know}
 use Rattle.qz_values.specs.Knowledge.{knows_yes}
 use Rattle.qz_syntax.specs.declared.statements.Binding.{Binding}
 use Rattle.qz_syntax.specs.declared.places.Residual.{Residual, out-Residual}
 use Rattle.qz_syntax.specs.declared.places.Residual.TheOpen.{Residual-F}
 use Rattle.qz_syntax.specs.declared.places.Residual.TheVariants.{InCall}
-use Rattle.qz_meaning.specs.Scenes.{Scene, Context}
+use Rattle.qz_meaning.specs.Scenes.{Scene}
 use Rattle.qz_meaning.specs.Expressions.{with_bindings}
 use Rattle.qz_meaning.specs.Behaviors.{Behavior, idle}
 
+-- whether control rests in the call with this number
 abbrev pub is_inside_call : ℕ → Residual-F Residual → Bool
 is_inside_call number (Residual-F.InCall other) = number == other
 is_inside_call number other = false

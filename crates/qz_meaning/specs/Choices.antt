@@ -1,21 +1,21 @@
 -- `if`.
-use Rattle.std.specs.Prelude.{ℕ, Bool, true, false, List, [], ◌++◌, Option, if◌then◌else◌}
+use Rattle.std.specs.Prelude.{Bool, true, false, ◌++◌, if◌then◌else◌}
 use Rattle.std.specs.Option.{option_map}
-use Rattle.qz_values.specs.declared.Know.{Know}
 use Rattle.qz_values.specs.Knowledge.{both, either, opposite, knows_yes}
 use Rattle.qz_syntax.specs.declared.expressions.Expr.{Expr}
 use Rattle.qz_syntax.specs.declared.places.Residual.{Residual, out-Residual}
 use Rattle.qz_syntax.specs.declared.places.Residual.TheOpen.{Residual-F}
 use Rattle.qz_syntax.specs.declared.places.Residual.TheVariants.{InIf}
 use Rattle.qz_meaning.specs.Residuals.{inner, side_of}
-use Rattle.qz_meaning.specs.Scenes.{Scene, Context}
+use Rattle.qz_meaning.specs.Scenes.{Scene}
 use Rattle.qz_meaning.specs.Expressions.{value_here}
-use Rattle.qz_meaning.specs.Behaviors.{Write, Behavior}
+use Rattle.qz_meaning.specs.Behaviors.{Behavior}
 
 -- the side in which control rests
 abbrev pub resting_side : Behavior → Behavior → Residual → Behavior
 resting_side first second r = if side_of r then first else second
 
+-- control rests in one side of an `if`, as it can rest in that side
 abbrev pub fits_in_side : Behavior → Behavior → Residual-F Residual → Bool
 fits_in_side first second (Residual-F.InIf side inside) = if side then first.fits inside else second.fits inside
 fits_in_side first second other = false
@@ -25,17 +25,17 @@ fits_in_side first second other = false
 abbrev pub choice : Scene → Expr → Behavior → Behavior → Behavior
 choice scene condition first second = record {
   ends = λ ctx m.
-    either (both (value_here scene ctx condition) (first.ends ctx m))
-        (both (opposite (value_here scene ctx condition)) (second.ends ctx m));
+      either (both (value_here scene ctx condition) (first.ends ctx m))
+      (both (opposite (value_here scene ctx condition)) (second.ends ctx m));
   start = λ ctx g m.
-    first.start ctx (both g (value_here scene ctx condition)) m
-    ++ second.start ctx (both g (opposite (value_here scene ctx condition))) m;
+      first.start ctx (both g (value_here scene ctx condition)) m
+      ++ second.start ctx (both g (opposite (value_here scene ctx condition))) m;
   ended = λ ctx r. (resting_side first second r).ended ctx (inner r);
   resume = λ ctx r g. (resting_side first second r).resume ctx (inner r) g;
   rest = λ ctx m.
-    (if knows_yes (value_here scene ctx condition)
-    then option_map (λ inside. InIf true inside) (first.rest ctx m)
-    else option_map (λ inside. InIf false inside) (second.rest ctx m));
+      (if knows_yes (value_here scene ctx condition)
+      then option_map (λ inside. InIf true inside) (first.rest ctx m)
+      else option_map (λ inside. InIf false inside) (second.rest ctx m));
   after = λ ctx r. option_map (λ inside. InIf (side_of r) inside) ((resting_side first second r).after ctx (inner r));
   kept = λ ctx r. InIf (side_of r) ((resting_side first second r).kept ctx (inner r));
   met_on_start = λ m. first.met_on_start m ++ second.met_on_start m;

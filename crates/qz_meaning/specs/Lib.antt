@@ -14,6 +14,7 @@ pub mod Scopes
 pub mod Calls
 pub mod Walks
 pub mod Verdicts
+pub mod VerdictLaws
 pub mod Programs
 pub mod Settling
 pub mod Rounds
@@ -21,3 +22,8 @@ pub mod MacroSteps
 pub mod Runs
 pub mod Valuations
 pub mod Examples
+pub mod PreemptionExamples
+pub mod ScopeExamples
+pub mod CallExamples
+pub mod WriterExamples
+pub mod ValuationExamples

@@ -1,5 +1,5 @@
 -- `do S while(e)`.
-use Rattle.std.specs.Prelude.{ℕ, Bool, true, false, List, ◌++◌, Option, if◌then◌else◌}
+use Rattle.std.specs.Prelude.{ℕ, Bool, false, ◌++◌, if◌then◌else◌}
 use Rattle.std.specs.Option.{option_map}
 use Rattle.qz_values.specs.declared.Know.{Know}
 use Rattle.qz_values.specs.declared.Know.TheVariants.{Known}
@@ -13,7 +13,7 @@ use Rattle.qz_syntax.specs.declared.places.Residual.TheVariants.{InBody}
 use Rattle.qz_meaning.specs.Residuals.{inner}
 use Rattle.qz_meaning.specs.Scenes.{Scene, Context}
 use Rattle.qz_meaning.specs.Expressions.{value_here}
-use Rattle.qz_meaning.specs.Behaviors.{Write, Behavior}
+use Rattle.qz_meaning.specs.Behaviors.{Behavior}
 
 -- control rests in the body of a loop, an abort or a suspend
 abbrev pub fits_in_body : Behavior → Residual-F Residual → Bool
@@ -32,13 +32,13 @@ repetition scene number body condition = record {
   start = λ ctx g m. body.start ctx g m;
   ended = λ ctx r. both (body.ended ctx (inner r)) (opposite (value_here scene ctx condition));
   resume = λ ctx r g.
-    body.resume ctx (inner r) g
-    ++ body.start ctx (both (both g (body.ended ctx (inner r))) (value_here scene ctx condition)) (mark.Loop number);
+      body.resume ctx (inner r) g
+      ++ body.start ctx (both (both g (body.ended ctx (inner r))) (value_here scene ctx condition)) (mark.Loop number);
   rest = λ ctx m. option_map (λ inside. InBody inside) (body.rest ctx m);
   after = λ ctx r.
-    (if knows_yes (turns scene condition body ctx r)
-    then option_map (λ inside. InBody inside) (body.rest ctx (mark.Loop number))
-    else option_map (λ inside. InBody inside) (body.after ctx (inner r)));
+      (if knows_yes (turns scene condition body ctx r)
+      then option_map (λ inside. InBody inside) (body.rest ctx (mark.Loop number))
+      else option_map (λ inside. InBody inside) (body.after ctx (inner r)));
   kept = λ ctx r. InBody (body.kept ctx (inner r));
   met_on_start = λ m. body.met_on_start m;
   met_on_resume = λ r. body.met_on_resume (inner r) ++ body.met_on_start (mark.Loop number);

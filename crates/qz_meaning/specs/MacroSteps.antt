@@ -1,18 +1,15 @@
 -- Macro steps. A step's values are a solution, which knows nothing of rounds: a plain environment that
 -- settles to itself under the walk.
-use Rattle.std.specs.Prelude.{ℕ, ◌≡◌, List, map, Option, Some, None}
+use Rattle.std.specs.Prelude.{◌≡◌, List, map, Option, Some, None}
 use Rattle.std.specs.List.{AllByRecursion}
 use Rattle.qz_values.specs.declared.Value.{Value}
-use Rattle.qz_values.specs.declared.Know.{Know}
 use Rattle.qz_values.specs.declared.Know.TheVariants.{Known}
-use Rattle.qz_syntax.specs.declared.expressions.Var.{Var}
 use Rattle.qz_syntax.specs.declared.expressions.Var.TheVariants as var
 use Rattle.qz_syntax.specs.declared.places.Mark.TheVariants as mark
 use Rattle.qz_syntax.specs.declared.places.Residual.{Residual}
 use Rattle.qz_syntax.specs.declared.places.Place.{Place}
 use Rattle.qz_syntax.specs.declared.places.Place.TheVariants as place
-use Rattle.qz_syntax.specs.declared.places.Store.{Store}
-use Rattle.qz_meaning.specs.Instances.{Instance, formal_instance}
+use Rattle.qz_meaning.specs.Instances.{formal_instance}
 use Rattle.qz_meaning.specs.Scenes.{root, new_store, store_from}
 use Rattle.qz_meaning.specs.Behaviors.{Write, Met, Behavior}
 use Rattle.qz_meaning.specs.Programs.{Program}
@@ -41,6 +38,7 @@ pub record IsSolution (p : Program) (c : Configuration) (row : List Value) (env 
   pub plain : IsPlain p c env
   pub settled : AllByRecursion (IsSettledAt p (step_writes p c env) env) (step_met p c env)
 
+-- a place where control rests, or the end where there is none
 abbrev pub rest_or_end : Option Residual → Place
 rest_or_end (Some r) = place.Rest r
 rest_or_end None = place.Ended

@@ -1,19 +1,16 @@
 -- Statements all at once.
-use Rattle.std.specs.Prelude.{ℕ, Bool, true, false, ◌&&◌, List, [], ◌∷◌, ◌++◌, map, Option, Some, None, is_some, if◌then◌else◌}
+use Rattle.std.specs.Prelude.{Bool, true, false, ◌&&◌, List, [], ◌∷◌, map, Option, Some, None, is_some, if◌then◌else◌}
 use Rattle.std.specs.List.{flat_map, list_any}
-use Rattle.std.specs.Option.{option_map}
 use Rattle.qz_values.specs.declared.Know.{Know}
 use Rattle.qz_values.specs.declared.Know.TheVariants.{Known}
 use Rattle.qz_values.specs.Values.{yes}
 use Rattle.qz_values.specs.Knowledge.{both}
-use Rattle.qz_syntax.specs.declared.places.Mark.{Mark}
-use Rattle.qz_syntax.specs.declared.places.Store.{Store}
 use Rattle.qz_syntax.specs.declared.places.Residual.{Residual, out-Residual}
 use Rattle.qz_syntax.specs.declared.places.Residual.TheOpen.{Residual-F}
 use Rattle.qz_syntax.specs.declared.places.Residual.TheVariants.{InPar}
 use Rattle.qz_meaning.specs.Residuals.{branches_of}
 use Rattle.qz_meaning.specs.Scenes.{Context}
-use Rattle.qz_meaning.specs.Behaviors.{Write, Met, Behavior}
+use Rattle.qz_meaning.specs.Behaviors.{Behavior}
 use Rattle.qz_meaning.specs.Sequences.{ends_of_all}
 
 -- the members in which control rests, each with where it does
@@ -47,6 +44,7 @@ fits_each (part ∷ parts) [] = false
 fits_each (part ∷ parts) (None ∷ branches) = fits_each parts branches
 fits_each (part ∷ parts) (Some r ∷ branches) = part.fits r && fits_each parts branches
 
+-- control rests in at least one member of a parallel
 abbrev pub fits_in_some : List Behavior → Residual-F Residual → Bool
 fits_in_some parts (Residual-F.InPar branches) = list_any (λ branch. is_some branch) branches && fits_each parts branches
 fits_in_some parts other = false

@@ -1,10 +1,9 @@
 -- A program as rounds and steps see it: its variables with their instances, and what its body does.
-use Rattle.std.specs.Prelude.{ℕ, ◌+◌, Bool, true, false, List, [], ◌∷◌, ◌++◌, map, length, Option, Some, None, slice_get, if◌then◌else◌}
+use Rattle.std.specs.Prelude.{ℕ, ◌+◌, Bool, true, false, List, [], ◌∷◌, ◌++◌, map, length, slice_get, if◌then◌else◌}
 use Rattle.std.specs.Option.{option_map_or}
-use Rattle.std.specs.List.{flat_map, range_with_len, enumerate_from, filter_map}
+use Rattle.std.specs.List.{flat_map, range_with_len}
 use Rattle.qz_values.specs.declared.Ty.{Ty}
 use Rattle.qz_values.specs.declared.Ty.TheVariants as ty
-use Rattle.qz_values.specs.declared.Know.TheVariants.{Unknown}
 use Rattle.qz_syntax.specs.declared.declarations.Class.{Class}
 use Rattle.qz_syntax.specs.declared.declarations.Class.TheVariants.{Event}
 use Rattle.qz_syntax.specs.declared.declarations.Dir.{Dir}
@@ -25,6 +24,7 @@ use Rattle.qz_meaning.specs.Behaviors.{Behavior}
 use Rattle.qz_meaning.specs.Walks.{behavior}
 use Rattle.std.specs.List.{list_any}
 
+-- what rounds, steps and valuations go by in a program
 pub record Program : Type 0 where
   -- the numbers of the input formals, and of the outputs
   pub inputs : List ℕ
@@ -41,27 +41,36 @@ pub record Program : Type 0 where
   -- what the body does
   pub body : Scene → Behavior
 
+-- whether two directions are one
+abbrev pub is_same_direction : Dir → Dir → Bool
+is_same_direction dir.In dir.In = true
+is_same_direction dir.In dir.Out = false
+is_same_direction dir.Out dir.In = false
+is_same_direction dir.Out dir.Out = true
+
+-- the numbers of the formals of one direction, of which this is the number of the first formal
 abbrev pub numbers_in : Dir → ℕ → List Formal → List ℕ
 numbers_in d n [] = []
-numbers_in dir.In n (formal ∷ formals) =
-    elim formal.dir [ dir.In ↦ n ∷ numbers_in dir.In (n + 1) formals | dir.Out ↦ numbers_in dir.In (n + 1) formals ]
-numbers_in dir.Out n (formal ∷ formals) =
-    elim formal.dir [ dir.In ↦ numbers_in dir.Out (n + 1) formals | dir.Out ↦ n ∷ numbers_in dir.Out (n + 1) formals ]
+numbers_in d n (formal ∷ formals) =
+    if is_same_direction formal.dir d then n ∷ numbers_in d (n + 1) formals else numbers_in d (n + 1) formals
 
 -- the numbers of a module's formals of one direction, in their order
 abbrev pub formals_of : Dir → Module → List ℕ
 formals_of d m = numbers_in d 0 m.formals
 
+-- the class of a variable, as the module declares it
 abbrev pub class_in : Module → Var → Class
 class_in m (var.Formal n) = option_map_or (λ (formal : Formal). formal.class) (slice_get m.formals n) Event
 class_in m (var.Local n) = option_map_or (λ (decl : Decl). decl.class) (slice_get m.decls n) Event
 class_in m (var.Bound n) = Event
 
+-- the type of a variable, as the module declares it
 abbrev pub type_in : Module → Var → Ty
 type_in m (var.Formal n) = option_map_or (λ (formal : Formal). formal.ty) (slice_get m.formals n) ty.Bool
 type_in m (var.Local n) = option_map_or (λ (decl : Decl). decl.ty) (slice_get m.decls n) ty.Bool
 type_in m (var.Bound n) = ty.Bool
 
+-- one statement, with whether each part applies `next` to the variable in its place
 abbrev pub own_delayed : Var → Stmt-F Bool → Bool
 own_delayed variable (Stmt-F.Delayed target value) = is_same_variable target variable
 own_delayed variable other = list_any (λ part. part) (parts_of other)

@@ -6,20 +6,22 @@ use Rattle.qz_values.specs.declared.Know.{Know}
 use Rattle.qz_values.specs.declared.Know.TheVariants as know
 use Rattle.qz_syntax.specs.declared.places.Later.{Later}
 use Rattle.qz_syntax.specs.declared.places.Later.TheVariants as later
-use Rattle.qz_meaning.specs.Instances.{Instance}
 use Rattle.qz_meaning.specs.Behaviors.{Write, Met}
 use Rattle.qz_meaning.specs.Programs.{Program}
 use Rattle.qz_meaning.specs.Settling.{Configuration, Environment, step_writes, step_met, settles_now, settles_later, given, met_as}
 
+-- an input has its value, an instance that is met settles, and every other one is unknown
 abbrev pub now_or_unknown : Program → List Write → Option Value → Option Met → Know
 now_or_unknown p writes (Some v) one = know.Known v
 now_or_unknown p writes None (Some one) = settles_now p writes one
 now_or_unknown p writes None None = know.Unknown
 
+-- the delayed value of an instance that is met settles, and every other one is unknown
 abbrev pub later_or_unknown : List Write → Option Met → Later
 later_or_unknown writes (Some one) = settles_later writes one
 later_or_unknown writes None = later.Unknown
 
+-- a value that is given is known
 abbrev pub given_or_unknown : Option Value → Know
 given_or_unknown (Some v) = know.Known v
 given_or_unknown None = know.Unknown
@@ -38,6 +40,7 @@ next_round p c row env = record {
   later = λ i. later_or_unknown (step_writes p c env) (met_as i (step_met p c env));
 }
 
+-- the environment after so many rounds
 abbrev pub round : Program → Configuration → List Value → ℕ → Environment
 round p c row zero = first_round p row
 round p c row (suc n) = next_round p c row (round p c row n)
@@ -58,11 +61,13 @@ pub record IsLeast (p : Program) (c : Configuration) (row : List Value) (env : E
   pub last : IsLast p c row number
   pub is : env ≡ round p c row number
 
+-- some value is known
 abbrev pub IsKnown : Know → Type 0
 IsKnown know.Unknown = ⊥
 IsKnown (know.Known v) = Unit {0}
 IsKnown know.Clash = ⊥
 
+-- some delayed value is known, or it is known that there is none
 abbrev pub IsKnownOrAbsent : Later → Type 0
 IsKnownOrAbsent later.Unknown = ⊥
 IsKnownOrAbsent later.Absent = Unit {0}

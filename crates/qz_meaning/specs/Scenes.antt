@@ -36,6 +36,7 @@ pub record Context : Type 0 where
 abbrev pub root : Context
 root = record { marks = λ n. mark.Zero; bound = λ n. Unknown }
 
+-- whether a number is among these
 abbrev pub contains : List ℕ → ℕ → Bool
 contains numbers n = list_any (λ number. number == n) numbers
 
@@ -69,6 +70,7 @@ store_of class t now later.Unknown = unmarked_store class t now
 store_of class t now later.Absent = unmarked_store class t now
 store_of class t now later.Clash = unmarked_store class t now
 
+-- the store that comes from an instance, under the values of the step
 abbrev pub store_from : Scene → Instance → Store
 store_from scene i =
     store_of (scene.class_of i.variable) (scene.type_of i.variable) (scene.now i) (scene.later i)

@@ -1,5 +1,5 @@
 -- Scopes: blocks with local variables.
-use Rattle.std.specs.Prelude.{ℕ, ◌==◌, Bool, true, false, ◌&&◌, List, [], ◌∷◌, ◌++◌, length, map, Option}
+use Rattle.std.specs.Prelude.{ℕ, ◌==◌, Bool, false, ◌&&◌, List, ◌++◌, length, map}
 use Rattle.std.specs.List.{zip}
 use Rattle.std.specs.Option.{option_map}
 use Rattle.qz_syntax.specs.declared.expressions.Var.TheVariants as var
@@ -27,6 +27,7 @@ met_new scene locals m =
 abbrev pub met_kept : List ℕ → List Store → List Met
 met_kept locals stores = map (λ (one : ℕ × Store). record { instance = local_instance one.0 mark.Zero; store = one.1 }) (zip locals stores)
 
+-- control rests in a scope, with one store for each of its locals
 abbrev pub fits_in_scope : List ℕ → Behavior → Residual-F Residual → Bool
 fits_in_scope locals body (Residual-F.InScope stores inside) = (length stores == length locals) && body.fits inside
 fits_in_scope locals body other = false
@@ -41,10 +42,10 @@ scope scene locals body = record {
   resume = λ ctx r g. body.resume (with_locals ctx locals mark.Zero) (inner r) g;
   rest = λ ctx m. option_map (λ inside. InScope (stores_from scene locals m) inside) (body.rest (with_locals ctx locals m) m);
   after = λ ctx r.
-    option_map (λ inside. InScope (stores_from scene locals mark.Zero) inside)
-        (body.after (with_locals ctx locals mark.Zero) (inner r));
+      option_map (λ inside. InScope (stores_from scene locals mark.Zero) inside)
+      (body.after (with_locals ctx locals mark.Zero) (inner r));
   kept = λ ctx r.
-    InScope (stores_from scene locals mark.Zero) (body.kept (with_locals ctx locals mark.Zero) (inner r));
+      InScope (stores_from scene locals mark.Zero) (body.kept (with_locals ctx locals mark.Zero) (inner r));
   met_on_start = λ m. met_new scene locals m ++ body.met_on_start m;
   met_on_resume = λ r. met_kept locals (stores_of r) ++ body.met_on_resume (inner r);
   fits = λ r. fits_in_scope locals body (out-Residual r);

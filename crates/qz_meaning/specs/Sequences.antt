@@ -1,10 +1,10 @@
 -- Statements one after the other.
-use Rattle.std.specs.Prelude.{ℕ, ◌+◌, Bool, true, false, ◌&&◌, nat_lt, List, [], ◌∷◌, ◌++◌, length, drop, Option, Some, None, slice_get, unwrap_or, if◌then◌else◌}
+use Rattle.std.specs.Prelude.{ℕ, ◌+◌, Bool, false, ◌&&◌, nat_lt, List, [], ◌∷◌, ◌++◌, length, drop, Option, None, slice_get, unwrap_or, if◌then◌else◌}
 use Rattle.std.specs.Option.{option_map}
 use Rattle.std.specs.List.{flat_map}
 use Rattle.qz_values.specs.declared.Know.{Know}
 use Rattle.qz_values.specs.declared.Know.TheVariants.{Known}
-use Rattle.qz_values.specs.Values.{yes, no}
+use Rattle.qz_values.specs.Values.{yes}
 use Rattle.qz_values.specs.Knowledge.{both, knows_yes}
 use Rattle.qz_syntax.specs.declared.places.Mark.{Mark}
 use Rattle.qz_syntax.specs.declared.places.Mark.TheVariants as mark
@@ -13,7 +13,7 @@ use Rattle.qz_syntax.specs.declared.places.Residual.TheOpen.{Residual-F}
 use Rattle.qz_syntax.specs.declared.places.Residual.TheVariants.{InSeq}
 use Rattle.qz_meaning.specs.Residuals.{inner, member_of}
 use Rattle.qz_meaning.specs.Scenes.{Context}
-use Rattle.qz_meaning.specs.Behaviors.{Write, Met, Behavior, idle}
+use Rattle.qz_meaning.specs.Behaviors.{Write, Behavior, idle}
 
 -- the first is started with the guard, each next one with the guard and the ends of all before it
 abbrev pub start_in_turn : Context → List Behavior → Know → Mark → List Write
@@ -36,13 +36,15 @@ rest_in_first ctx (part ∷ parts) number m =
 abbrev pub member : List Behavior → ℕ → Behavior
 member parts number = unwrap_or (slice_get parts number) idle
 
--- the member in which control rests, and those after it
+-- the member in which control rests
 abbrev pub resting_member : List Behavior → Residual → Behavior
 resting_member parts r = member parts (member_of r)
 
+-- the members after the one in which control rests
 abbrev pub later_members : List Behavior → Residual → List Behavior
 later_members parts r = drop (member_of r + 1) parts
 
+-- control rests in one member of a sequence, as it can rest in that member
 abbrev pub fits_in_one : List Behavior → Residual-F Residual → Bool
 fits_in_one parts (Residual-F.InSeq number inside) = nat_lt number (length parts) && (member parts number).fits inside
 fits_in_one parts other = false
@@ -54,18 +56,18 @@ sequence parts = record {
   start = λ ctx g m. start_in_turn ctx parts g m;
   ended = λ ctx r. ends_of_all ctx (later_members parts r) ((resting_member parts r).ended ctx (inner r)) mark.Zero;
   resume = λ ctx r g.
-    (resting_member parts r).resume ctx (inner r) g
-    ++ start_in_turn ctx (later_members parts r) (both g ((resting_member parts r).ended ctx (inner r))) mark.Zero;
+      (resting_member parts r).resume ctx (inner r) g
+      ++ start_in_turn ctx (later_members parts r) (both g ((resting_member parts r).ended ctx (inner r))) mark.Zero;
   rest = λ ctx m. rest_in_first ctx parts 0 m;
   after = λ ctx r.
-    (if knows_yes ((resting_member parts r).ended ctx (inner r))
-    then rest_in_first ctx (later_members parts r) (member_of r + 1) mark.Zero
-    else option_map (λ inside. InSeq (member_of r) inside) ((resting_member parts r).after ctx (inner r)));
+      (if knows_yes ((resting_member parts r).ended ctx (inner r))
+      then rest_in_first ctx (later_members parts r) (member_of r + 1) mark.Zero
+      else option_map (λ inside. InSeq (member_of r) inside) ((resting_member parts r).after ctx (inner r)));
   kept = λ ctx r. InSeq (member_of r) ((resting_member parts r).kept ctx (inner r));
   met_on_start = λ m. flat_map (λ (part : Behavior). part.met_on_start m) parts;
   met_on_resume = λ r.
-    (resting_member parts r).met_on_resume (inner r)
-    ++ flat_map (λ (part : Behavior). part.met_on_start mark.Zero) (later_members parts r);
+      (resting_member parts r).met_on_resume (inner r)
+      ++ flat_map (λ (part : Behavior). part.met_on_start mark.Zero) (later_members parts r);
   fits = λ r. fits_in_one parts (out-Residual r);
   stores_at = λ r. (resting_member parts r).stores_at (inner r);
 }

@@ -1,5 +1,5 @@
 -- Environments, and how the instances that a walk meets settle.
-use Rattle.std.specs.Prelude.{ℕ, Bool, true, false, ◌==◌, List, [], ◌∷◌, ◌++◌, map, Option, Some, None, if◌then◌else◌}
+use Rattle.std.specs.Prelude.{ℕ, true, false, ◌==◌, List, [], ◌∷◌, ◌++◌, map, Option, Some, None, if◌then◌else◌}
 use Rattle.std.specs.List.{zip}
 use Rattle.qz_values.specs.declared.Ty.{Ty}
 use Rattle.qz_values.specs.declared.Value.{Value}
@@ -14,7 +14,6 @@ use Rattle.qz_syntax.specs.declared.places.Mark.TheVariants as mark
 use Rattle.qz_syntax.specs.declared.places.Later.{Later}
 use Rattle.qz_syntax.specs.declared.places.Later.TheVariants as later
 use Rattle.qz_syntax.specs.declared.places.Store.{Store}
-use Rattle.qz_syntax.specs.declared.places.Residual.{Residual}
 use Rattle.qz_syntax.specs.declared.places.Place.{Place}
 use Rattle.qz_syntax.specs.declared.places.Place.TheVariants as place
 use Rattle.qz_meaning.specs.Instances.{Instance, is_same_instance, formal_instance}
@@ -44,9 +43,11 @@ scene_of p env = record {
   call_ends = λ n. know.Unknown;
 }
 
+-- what the body does under an environment
 abbrev pub body_under : Program → Environment → Behavior
 body_under p env = p.body (scene_of p env)
 
+-- the writes of a step from a place: a start from the beginning, a resume from where control rests
 abbrev pub writes_at : Behavior → Place → List Write
 writes_at body place.NotStarted = body.start root (know.Known yes) mark.Zero
 writes_at body (place.Rest r) = body.resume root r (know.Known yes)
@@ -56,11 +57,13 @@ writes_at body place.Ended = []
 abbrev pub step_writes : Program → Configuration → Environment → List Write
 step_writes p c env = writes_at (body_under p env) c.place
 
+-- the instances that the walk from a place comes past
 abbrev pub met_at : Behavior → Place → List Met
 met_at body place.NotStarted = body.met_on_start mark.Zero
 met_at body (place.Rest r) = body.met_on_resume r
 met_at body place.Ended = []
 
+-- the outputs, each with its store
 abbrev pub met_outputs : List ℕ → List Store → List Met
 met_outputs outputs stores = map (λ (one : ℕ × Store). record { instance = formal_instance one.0; store = one.1 }) (zip outputs stores)
 
@@ -77,12 +80,14 @@ abbrev pub unwritten : Class → Ty → Store → Value
 unwritten Event t store = default_of t
 unwritten Mem t store = store.value
 
+-- what a variable settles to by the verdict of its writers: at Nobody its default or its kept value
 abbrev pub settled : Class → Ty → Store → Verdict → Know
 settled class t store Nobody = know.Known (unwritten class t store)
 settled class t store Open = know.Unknown
 settled class t store (One v) = know.Known v
 settled class t store Torn = know.Clash
 
+-- what a delayed value settles to by the verdict of its writers: at Nobody it is absent
 abbrev pub settled_later : Verdict → Later
 settled_later Nobody = later.Absent
 settled_later Open = later.Unknown
@@ -93,8 +98,9 @@ settled_later Torn = later.Clash
 abbrev pub settles_now : Program → List Write → Met → Know
 settles_now p writes one =
     settled (p.class_of one.instance.variable) (p.type_of one.instance.variable) one.store
-        (with_pending one.store (verdict one.instance false writes))
+    (with_pending one.store (verdict one.instance false writes))
 
+-- what the delayed value of an instance that is met settles to
 abbrev pub settles_later : List Write → Met → Later
 settles_later writes one = settled_later (verdict one.instance true writes)
 

@@ -1,6 +1,5 @@
 -- Statements without parts: nothing, assignments and pauses.
-use Rattle.std.specs.Prelude.{ℕ, Bool, true, false, ◌==◌, List, [], ◌∷◌, Option, Some, None}
-use Rattle.qz_values.specs.declared.Know.{Know}
+use Rattle.std.specs.Prelude.{ℕ, Bool, false, ◌==◌, [], ◌∷◌, Some}
 use Rattle.qz_values.specs.declared.Know.TheVariants.{Known}
 use Rattle.qz_values.specs.Values.{yes, no}
 use Rattle.qz_syntax.specs.declared.expressions.Var.{Var}
@@ -8,9 +7,9 @@ use Rattle.qz_syntax.specs.declared.expressions.Expr.{Expr}
 use Rattle.qz_syntax.specs.declared.places.Residual.{Residual, out-Residual}
 use Rattle.qz_syntax.specs.declared.places.Residual.TheOpen.{Residual-F}
 use Rattle.qz_syntax.specs.declared.places.Residual.TheVariants.{At}
-use Rattle.qz_meaning.specs.Scenes.{Scene, Context, instance_here}
+use Rattle.qz_meaning.specs.Scenes.{Scene, instance_here}
 use Rattle.qz_meaning.specs.Expressions.{value_here}
-use Rattle.qz_meaning.specs.Behaviors.{Write, Behavior, idle}
+use Rattle.qz_meaning.specs.Behaviors.{Behavior, idle}
 
 -- `x = e` or `next(x) = e`: one write under the guard; it ends at once
 abbrev pub assignment : Scene → Bool → Var → Expr → Behavior
@@ -23,6 +22,7 @@ assignment scene delayed target value = record idle {
   } ∷ [];
 }
 
+-- whether control rests at the pause with this number
 abbrev pub is_at_in : ℕ → Residual-F Residual → Bool
 is_at_in place (Residual-F.At other) = place == other
 is_at_in place other = false

@@ -1,8 +1,8 @@
 -- Permitted valuations: every place that the syntax permits, with every store and every input; and their
 -- order, which is that of lists of bits.
-use Rattle.std.specs.Prelude.{ℕ, ◌≡◌, ◌+◌, ◌*◌, ◌/◌, ◌%◌, ◌^◌, Bool, true, false, ◌==◌, ◌&&◌, ◌||◌, not, nat_lt, IsTrue, List, [], ◌∷◌, ◌++◌, map, length, Option, Some, None, is_some, if◌then◌else◌}
+use Rattle.std.specs.Prelude.{ℕ, ◌≡◌, ◌/◌, ◌%◌, ◌^◌, Bool, true, false, ◌==◌, ◌&&◌, nat_lt, IsTrue, List, [], ◌∷◌, ◌++◌, map, Option, Some, None, if◌then◌else◌}
 use Rattle.std.specs.Option.{option_map_or}
-use Rattle.std.specs.List.{zip, list_all, list_any, flat_map, range_with_len, concat}
+use Rattle.std.specs.List.{list_all, flat_map, range_with_len}
 use Rattle.qz_values.specs.declared.Ty.{Ty}
 use Rattle.qz_values.specs.declared.Value.{Value}
 use Rattle.qz_values.specs.Types.{width_of, is_same_type}
@@ -17,10 +17,10 @@ use Rattle.qz_syntax.specs.declared.places.Residual.TheOpen.{Residual-F}
 use Rattle.qz_syntax.specs.declared.places.Residual.TheFolds.{fold-Residual}
 use Rattle.qz_syntax.specs.declared.places.Place.{Place}
 use Rattle.qz_syntax.specs.declared.places.Place.TheVariants as place
-use Rattle.qz_meaning.specs.Scenes.{contains, new_store}
+use Rattle.qz_meaning.specs.Scenes.{contains}
 use Rattle.qz_meaning.specs.Behaviors.{Behavior}
 use Rattle.qz_meaning.specs.Programs.{Program}
-use Rattle.qz_meaning.specs.Settling.{Configuration, Environment, body_under}
+use Rattle.qz_meaning.specs.Settling.{Configuration, body_under}
 use Rattle.qz_meaning.specs.Rounds.{first_round}
 use Rattle.qz_meaning.specs.MacroSteps.{initial}
 
@@ -29,6 +29,7 @@ pub record Valuation : Type 0 where
   pub configuration : Configuration
   pub inputs : List Value
 
+-- one residual, with the places of the parts inside it in their place
 abbrev pub node_places : Residual-F (List ℕ) → List ℕ
 node_places (Residual-F.At place) = place ∷ []
 node_places (Residual-F.Hold place) = place ∷ []
@@ -58,15 +59,18 @@ is_store_of p variable store =
     is_of_type (p.type_of variable) store.value
     && (if store.pending then p.is_delayed variable else is_kept_by (p.class_of variable) store.value)
 
+-- for each output a store that it can have
 abbrev pub are_output_stores : Program → List ℕ → List Store → Bool
 are_output_stores p [] [] = true
 are_output_stores p [] (store ∷ stores) = false
 are_output_stores p (n ∷ numbers) [] = false
 are_output_stores p (n ∷ numbers) (store ∷ stores) = is_store_of p (var.Formal n) store && are_output_stores p numbers stores
 
+-- each of these locals has a store that it can have
 abbrev pub are_local_stores : Program → List (ℕ × Store) → Bool
 are_local_stores p stores = list_all (λ (one : ℕ × Store). is_store_of p (var.Local one.0) one.1) stores
 
+-- for each input a value of its type
 abbrev pub are_inputs : Program → List ℕ → List Value → Bool
 are_inputs p [] [] = true
 are_inputs p [] (v ∷ values) = false
@@ -85,10 +89,12 @@ IsPermittedPlace p c (place.Rest r) =
     IsTrue ((shape_of p).fits r && (are_local_stores p ((shape_of p).stores_at r) && are_output_stores p p.outputs c.outputs))
 IsPermittedPlace p c place.Ended = IsTrue (are_output_stores p p.outputs c.outputs)
 
+-- a valuation that is permitted
 pub record IsPermitted (p : Program) (v : Valuation) : Type 0 where
   pub place : IsPermittedPlace p v.configuration v.configuration.place
   pub inputs : IsTrue (are_inputs p p.inputs v.inputs)
 
+-- whether the program is started, also where it has ended
 abbrev pub is_started : Place → Bool
 is_started place.NotStarted = false
 is_started (place.Rest r) = true
@@ -100,11 +106,13 @@ rests_at place.NotStarted n = false
 rests_at (place.Rest r) n = contains (resting_places r) n
 rests_at place.Ended n = false
 
+-- the stores of the locals that exist at a place, by the locals' numbers
 abbrev pub stores_at_place : Program → Place → List (ℕ × Store)
 stores_at_place p place.NotStarted = []
 stores_at_place p (place.Rest r) = (shape_of p).stores_at r
 stores_at_place p place.Ended = []
 
+-- the store of the local with this number, if it exists
 abbrev pub store_among : List (ℕ × Store) → ℕ → Option Store
 store_among [] n = None
 store_among (one ∷ others) n = if one.0 == n then Some one.1 else store_among others n

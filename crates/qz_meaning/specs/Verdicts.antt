@@ -1,5 +1,5 @@
 -- What the writes to one target come to.
-use Rattle.std.specs.Prelude.{ℕ, Bool, true, false, ◌==◌, ◌&&◌, List, [], ◌∷◌, if◌then◌else◌}
+use Rattle.std.specs.Prelude.{Bool, true, false, ◌==◌, ◌&&◌, List, [], ◌∷◌, if◌then◌else◌}
 use Rattle.qz_values.specs.declared.Value.{Value}
 use Rattle.qz_values.specs.declared.Know.{Know}
 use Rattle.qz_values.specs.declared.Know.TheVariants.{Unknown, Known, Clash}
@@ -16,6 +16,7 @@ pub data Verdict : Type 0 where
   One : Value → Verdict
   Torn : Verdict
 
+-- whether two values are one
 abbrev pub is_same_value : Value → Value → Bool
 is_same_value v w = is_same_type (type_of v) (type_of w) && (bits_of v == bits_of w)
 
@@ -55,6 +56,6 @@ tally i delayed so_far [] = so_far
 tally i delayed so_far (w ∷ ws) =
     tally i delayed (if is_to i delayed w then join so_far (verdict_of_one w.guard w.value) else so_far) ws
 
+-- the verdict of the present or of the delayed writes to an instance
 abbrev pub verdict : Instance → Bool → List Write → Verdict
 verdict i delayed writes = tally i delayed Nobody writes
-

@@ -1,5 +1,5 @@
 -- The walk over a statement: each form's line.
-use Rattle.std.specs.Prelude.{ℕ, true, false, List}
+use Rattle.std.specs.Prelude.{true, false}
 use Rattle.qz_syntax.specs.declared.statements.Stmt.{Stmt}
 use Rattle.qz_syntax.specs.declared.statements.Stmt.TheOpen.{Stmt-F}
 use Rattle.qz_syntax.specs.declared.statements.Stmt.TheFolds.{fold-Stmt}

@@ -21,10 +21,11 @@ pub fn may_end(s: &Stmt, callees: &[bool]) -> bool
         Stmt::If(_, first, second) => may_end(first.get(), callees)
             || may_end(second.get(), callees),
         Stmt::Abort(kind, body, _) => kind.immediate || may_end(body.get(), callees),
-        Stmt::Loop(_, body, _)
-        | Stmt::Suspend(_, _, body, _)
-        | Stmt::Scope(_, body)
-        | Stmt::Bind(_, body) => { may_end(body.get(), callees) }
+        Stmt::Suspend(_, _, body, _) => may_end(body.get(), callees),
+        Stmt::Loop(_, body, _) | Stmt::Scope(_, body) | Stmt::Bind(_, body) => may_end(
+            body.get(),
+            callees,
+        ),
         Stmt::Call(_, proto, _) => at(callees, *proto as usize).copied().unwrap_or(false),
     }
 }

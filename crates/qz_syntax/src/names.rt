@@ -54,7 +54,7 @@ const LONGEST: usize = 64;
 
 /// A name of the language: 1 to 64 characters, the first with `XID_Start` and each later one with
 /// `XID_Continue` (Unicode Standard Annex 31), and no reserved word.
-#[derive(Debug, Drop)]
+#[derive(Clone, Debug, Drop)]
 pub struct Name {
     text: String,
 }
@@ -74,7 +74,7 @@ impl Model for Name {
 impl Name {
     /// The name with this text, or `None` where the text is no name.
     pub fn new(alloc: Global, text: &str) -> Result<Option<Name>, AllocError>
-        ensures { IfOk result (λ name. MatchOption name (is_name (chars text.now) ≡ false) (λ n. n ≡ chars text.now)) }
+        ensures { IfOk result (λ name. MatchOption name (is_name (chars text.now) ≡ false) (λ n. (n ≡ chars text.now) × IsName n)) }
     {
         if !is_name(text) {
             return Ok(None);
@@ -90,16 +90,6 @@ impl Name {
         ensures name { IsName self.now }
     {
         self.text.as_str()
-    }
-}
-
-impl Clone for Name {
-    ghost is_clone = { λ n copy. copy ≡ n };
-
-    fn clone(&self) -> Result<Name, AllocError> {
-        Ok(Name {
-            text: self.text.clone()?,
-        })
     }
 }
 
@@ -177,7 +167,7 @@ fn is_among(words: &[&str], text: &str) -> bool
 }
 
 /// A text, seen as the list of its bytes.
-#[derive(Debug, Drop)]
+#[derive(Clone, Debug, Drop)]
 pub struct Text {
     text: String,
 }

@@ -6,14 +6,21 @@ use crate::{
 use qz_values::{Op1, Op2, Value};
 use sqlite_items::{Boxed, Items};
 use std::alloc::{AllocError, Global};
-use std::collections::HashMap;
+use std::hash::{DefaultHasher, Hash, Hasher};
 use std::test::Fail;
+
+type Made = Result<Stmt, AllocError>;
 
 fn name(alloc: Global, text: &str) -> Result<Name, Fail> {
     Ok(Name::new(alloc, text)?.ok_or("no name")?)
 }
 
-fn module(alloc: Global, body: Stmt) -> Result<Module, Fail> {
+fn is_name(alloc: Global, text: &str) -> Result<bool, AllocError> {
+    Ok(Name::new(alloc, text)?.is_some())
+}
+
+fn module(alloc: Global, body: Made) -> Result<Module, Fail> {
+    let body = body?;
     Ok(Module {
         name: name(alloc, "M")?,
         formals: Items::new(alloc),
@@ -23,6 +30,14 @@ fn module(alloc: Global, body: Stmt) -> Result<Module, Fail> {
         calls: 0,
         body,
     })
+}
+
+fn units(alloc: Global, body: Made) -> Result<u64, Fail> {
+    Ok(size(&module(alloc, body)?))
+}
+
+fn ends(body: Made) -> Result<bool, AllocError> {
+    Ok(may_end(&body?, &[false, true]))
 }
 
 fn truth() -> Expr {
@@ -37,33 +52,37 @@ fn emit(target: Var) -> Stmt {
     Stmt::Assign(target, truth())
 }
 
-fn pair(alloc: Global, first: Stmt, second: Stmt) -> Result<Items<Stmt>, AllocError> {
-    let mut parts = Items::new(alloc);
-    parts.push(first)?;
-    parts.push(second)?;
+fn boxed(alloc: Global, s: Made) -> Result<Boxed<Stmt>, AllocError> {
+    Boxed::new(alloc, s?)
+}
+
+fn add(parts: Result<Items<Stmt>, AllocError>, part: Made) -> Result<Items<Stmt>, AllocError> {
+    let mut parts = parts?;
+    parts.push(part?)?;
     Ok(parts)
 }
 
-fn branch(alloc: Global, condition: Expr, first: Stmt, second: Stmt) -> Result<Stmt, AllocError> {
-    Ok(Stmt::If(
-        condition,
-        Boxed::new(alloc, first)?,
-        Boxed::new(alloc, second)?,
-    ))
+fn pair(alloc: Global, first: Made, second: Made) -> Result<Items<Stmt>, AllocError> {
+    add(add(Ok(Items::new(alloc)), first), second)
 }
 
-fn looped(alloc: Global, number: u32, body: Stmt) -> Result<Stmt, AllocError> {
-    Ok(Stmt::Loop(number, Boxed::new(alloc, body)?, truth()))
+/// `if(condition) first`
+fn branch(alloc: Global, condition: Expr, first: Stmt) -> Made {
+    let first = Boxed::new(alloc, first)?;
+    let second = Boxed::new(alloc, Stmt::Nothing)?;
+    Ok(Stmt::If(condition, first, second))
 }
 
-fn scope(alloc: Global, local: u32, body: Stmt) -> Result<Stmt, AllocError> {
-    Ok(Stmt::Scope(
-        Items::from_slice(alloc, &[local])?,
-        Boxed::new(alloc, body)?,
-    ))
+fn looped(alloc: Global, number: u32, body: Made) -> Made {
+    Ok(Stmt::Loop(number, boxed(alloc, body)?, truth()))
 }
 
-fn abort(alloc: Global, immediate: bool, body: Stmt) -> Result<Stmt, AllocError> {
+fn scope(alloc: Global, local: u32, body: Made) -> Made {
+    let body = boxed(alloc, body)?;
+    Ok(Stmt::Scope(Items::from_slice(alloc, &[local])?, body))
+}
+
+fn abort(alloc: Global, immediate: bool, body: Stmt) -> Made {
     let kind = Kind {
         weak: false,
         immediate,
@@ -71,7 +90,7 @@ fn abort(alloc: Global, immediate: bool, body: Stmt) -> Result<Stmt, AllocError>
     Ok(Stmt::Abort(kind, Boxed::new(alloc, body)?, truth()))
 }
 
-fn suspend(alloc: Global, hold: Option<u32>, body: Stmt) -> Result<Stmt, AllocError> {
+fn suspend(alloc: Global, hold: Option<u32>, body: Stmt) -> Made {
     let kind = Kind {
         weak: false,
         immediate: hold.is_some(),
@@ -79,95 +98,104 @@ fn suspend(alloc: Global, hold: Option<u32>, body: Stmt) -> Result<Stmt, AllocEr
     Ok(Stmt::Suspend(kind, hold, Boxed::new(alloc, body)?, truth()))
 }
 
-/// `if(t & s) emit x;` and `if(t) next(s) = !s;`, with t the first formal, s and x the locals.
-fn toggles(alloc: Global) -> Result<Items<Stmt>, AllocError> {
-    let t = Expr::Var(Var::Formal(0));
-    let both = Expr::Bin(
-        Op2::And,
-        Boxed::new(alloc, t)?,
-        Boxed::new(alloc, local(0))?,
-    );
-    let flip = Expr::Un(Op1::Not, Boxed::new(alloc, local(0))?);
-    let next = Stmt::Delayed(Var::Local(0), flip);
-    let sets = branch(alloc, both, emit(Var::Local(1)), Stmt::Nothing)?;
-    let turns = branch(alloc, Expr::Var(Var::Formal(0)), next, Stmt::Nothing)?;
-    pair(alloc, sets, turns)
+fn not(alloc: Global, e: Expr) -> Result<Expr, AllocError> {
+    Ok(Expr::Un(Op1::Not, Boxed::new(alloc, e)?))
+}
+
+/// `if(t & s) emit x;`
+fn sets(alloc: Global) -> Made {
+    let t = Boxed::new(alloc, Expr::Var(Var::Formal(0)))?;
+    let s = Boxed::new(alloc, local(0))?;
+    branch(alloc, Expr::Bin(Op2::And, t, s), emit(Var::Local(1)))
+}
+
+/// `if(t) next(s) = !s;`
+fn turns(alloc: Global) -> Made {
+    let next = Stmt::Delayed(Var::Local(0), not(alloc, local(0))?);
+    branch(alloc, Expr::Var(Var::Formal(0)), next)
 }
 
 /// A counter's cell: `{ mem bool s; loop { event bool x; .. if(x) emit c; pause; } }`.
-fn cell(alloc: Global) -> Result<Stmt, AllocError> {
-    let mut parts = toggles(alloc)?;
-    let carry = branch(alloc, local(1), emit(Var::Formal(1)), Stmt::Nothing)?;
-    parts.append(pair(alloc, carry, Stmt::Pause(0))?)?;
-    let turn = scope(alloc, 1, Stmt::Seq(parts))?;
-    scope(alloc, 0, looped(alloc, 0, turn)?)
+fn cell(alloc: Global) -> Made {
+    let toggles = pair(alloc, sets(alloc), turns(alloc));
+    let carries = add(toggles, branch(alloc, local(1), emit(Var::Formal(1))));
+    let turn = Stmt::Seq(add(carries, Ok(Stmt::Pause(0)))?);
+    scope(alloc, 0, looped(alloc, 0, scope(alloc, 1, Ok(turn))))
 }
 
 /// So many times `nothing;`, and then a statement.
-fn padded(alloc: Global, count: u32, last: Stmt) -> Result<Stmt, AllocError> {
+fn padded(alloc: Global, count: u32, last: Made) -> Made {
     let mut parts = Items::new(alloc);
     for _ in 0..count {
         parts.push(Stmt::Nothing)?;
     }
-    parts.push(last)?;
-    Ok(Stmt::Seq(parts))
+    Ok(Stmt::Seq(add(Ok(parts), last)?))
 }
 
-/// A call with an input argument of two nodes and an output argument.
-fn call(alloc: Global) -> Result<Stmt, AllocError> {
-    let value = Expr::Un(Op1::Not, Boxed::new(alloc, truth())?);
+/// A call of the second prototype, with an input argument of two nodes and an output argument.
+fn call(alloc: Global) -> Made {
+    let value = not(alloc, truth())?;
     let mut arguments = Items::new(alloc);
     arguments.push(Arg::In(value))?;
     arguments.push(Arg::Out(Var::Local(0)))?;
     Ok(Stmt::Call(0, 1, arguments))
 }
 
-fn bind(alloc: Global, body: Stmt) -> Result<Stmt, AllocError> {
+fn bind(alloc: Global, body: Stmt) -> Made {
+    let body = Boxed::new(alloc, body)?;
     let mut bindings = Items::new(alloc);
     bindings.push(Binding {
         number: 0,
         value: truth(),
     })?;
-    Ok(Stmt::Bind(bindings, Boxed::new(alloc, body)?))
+    Ok(Stmt::Bind(bindings, body))
+}
+
+/// Local 1 in loops 0 and 1, local 0 in loop 0, and local 2 beside them.
+fn nested(alloc: Global) -> Made {
+    let inner = looped(alloc, 1, scope(alloc, 1, Ok(Stmt::Pause(0))));
+    let outer = looped(alloc, 0, scope(alloc, 0, inner));
+    Ok(Stmt::Par(pair(alloc, outer, scope(alloc, 2, Ok(Stmt::Pause(1))))?))
+}
+
+/// The marks of a local of a module, which is dropped.
+fn marks(alloc: Global, m: Module, decl: u32) -> Result<Vec<Mark>, AllocError> {
+    marks_of(alloc, &m, decl)
 }
 
 #[test]
 fn names(rt: HostRuntime) -> Result<(), Fail> {
-    let longest = ["a"; 64].concat(rt.alloc())?;
-    let longer = ["a"; 65].concat(rt.alloc())?;
-    let accents = ["\u{e9}"; 64].concat(rt.alloc())?;
-    let table = [
-        ("a", true),
-        ("x1_y", true),
-        ("\u{3a9}\u{3bc}", true),
-        ("loops", true),
-        (longest.as_str(), true),
-        (accents.as_str(), true),
-        (longer.as_str(), false),
-        ("", false),
-        ("_a", false),
-        ("1a", false),
-        ("a-b", false),
-        ("loop", false),
-        ("sustain", false),
-    ];
-    for (text, is_name) in table {
-        let made = Name::new(rt.alloc(), text)?;
-        assert_eq!(rt; made.is_some(), is_name, "{text}");
-        if let Some(made) = made {
-            assert_eq!(rt; made.as_str(), text);
-        }
+    for text in ["a", "x1_y", "\u{3a9}\u{3bc}", "loops"] {
+        assert!(rt; is_name(rt.alloc(), text)?);
+    }
+    for text in ["", "_a", "1a", "a-b", "loop", "sustain"] {
+        assert!(rt; !is_name(rt.alloc(), text)?);
     }
     Ok(())
 }
 
 #[test]
-fn names_as_keys(rt: HostRuntime) -> Result<(), Fail> {
-    let mut numbers = HashMap::new(rt.alloc());
-    numbers.insert(name(rt.alloc(), "a")?, 1)?;
-    numbers.insert(name(rt.alloc(), "\u{e9}")?, 2)?;
-    assert_eq!(rt; numbers.get(&name(rt.alloc(), "\u{e9}")?), Some(&2));
-    assert!(rt; numbers.get(&name(rt.alloc(), "e")?).is_none());
+fn lengths_of_names(rt: HostRuntime) -> Result<(), Fail> {
+    let longest = "\u{e9}".repeat(rt.alloc(), 64)?;
+    assert!(rt; is_name(rt.alloc(), longest.as_str())?);
+    let longer = "a".repeat(rt.alloc(), 65)?;
+    assert!(rt; !is_name(rt.alloc(), longer.as_str())?);
+    Ok(())
+}
+
+fn hash_of(name: &Name) -> u64 {
+    let mut state = DefaultHasher::new();
+    name.hash(&mut state);
+    state.finish()
+}
+
+#[test]
+fn names_are_compared(rt: HostRuntime) -> Result<(), Fail> {
+    let accent = name(rt.alloc(), "\u{e9}")?;
+    assert_eq!(rt; accent.as_str(), "\u{e9}");
+    assert!(rt; accent == name(rt.alloc(), "\u{e9}")?);
+    assert!(rt; accent != name(rt.alloc(), "e")?);
+    assert_eq!(rt; hash_of(&accent), hash_of(&name(rt.alloc(), "\u{e9}")?));
     Ok(())
 }
 
@@ -181,51 +209,51 @@ fn texts(rt: HostRuntime) -> Result<(), Fail> {
 #[test]
 fn sizes(rt: HostRuntime) -> Result<(), Fail> {
     let alloc = rt.alloc();
-    assert_eq!(rt; size(&module(alloc, cell(alloc)?)?), 74);
-    assert_eq!(rt; size(&module(alloc, padded(alloc, 49_997, emit(Var::Formal(0)))?)?), 100_000);
-    let halt = looped(alloc, 0, Stmt::Pause(0))?;
-    assert_eq!(rt; size(&module(alloc, padded(alloc, 49_996, halt)?)?), 100_001);
-    assert_eq!(rt; size(&module(alloc, call(alloc)?)?), 6);
-    assert_eq!(rt; size(&module(alloc, bind(alloc, Stmt::Nothing)?)?), 6);
+    assert_eq!(rt; units(alloc, cell(alloc))?, 74);
+    assert_eq!(rt;
+        units(alloc, padded(alloc, 49_997, Ok(emit(Var::Formal(0)))))?,
+        100_000
+    );
+    let halt = looped(alloc, 0, Ok(Stmt::Pause(0)));
+    assert_eq!(rt; units(alloc, padded(alloc, 49_996, halt))?, 100_001);
+    assert_eq!(rt; units(alloc, call(alloc))?, 6);
+    assert_eq!(rt; units(alloc, bind(alloc, Stmt::Nothing))?, 6);
     Ok(())
 }
 
 #[test]
 fn endings(rt: HostRuntime) -> Result<(), Fail> {
     let alloc = rt.alloc();
-    let callees = [false, true];
-    let stops = Stmt::Seq(pair(alloc, Stmt::Nothing, Stmt::Pause(0))?);
-    assert!(rt; !may_end(&stops, &callees));
-    let passes = Stmt::Par(pair(alloc, Stmt::Nothing, emit(Var::Local(0)))?);
-    assert!(rt; may_end(&passes, &callees));
-    let either = branch(alloc, truth(), Stmt::Pause(0), Stmt::Nothing)?;
-    assert!(rt; may_end(&either, &callees));
-    assert!(rt; may_end(&call(alloc)?, &callees));
-    assert!(rt; !may_end(&call(alloc)?, &[true, false]));
+    let stops = pair(alloc, Ok(Stmt::Nothing), Ok(Stmt::Pause(0)))?;
+    assert!(rt; !ends(Ok(Stmt::Seq(stops)))?);
+    let passes = pair(alloc, Ok(Stmt::Nothing), Ok(emit(Var::Local(0))))?;
+    assert!(rt; ends(Ok(Stmt::Par(passes)))?);
+    assert!(rt; ends(branch(alloc, truth(), Stmt::Pause(0)))?);
+    assert!(rt; ends(call(alloc))?);
     Ok(())
 }
 
 #[test]
 fn endings_of_preemptions(rt: HostRuntime) -> Result<(), Fail> {
     let alloc = rt.alloc();
-    assert!(rt; may_end(&abort(alloc, true, Stmt::Pause(0))?, &[]));
-    assert!(rt; !may_end(&abort(alloc, false, Stmt::Pause(0))?, &[]));
-    assert!(rt; may_end(&suspend(alloc, Some(0), Stmt::Nothing)?, &[]));
-    assert!(rt; !may_end(&suspend(alloc, Some(0), Stmt::Pause(1))?, &[]));
-    assert!(rt; may_end(&suspend(alloc, None, Stmt::Nothing)?, &[]));
+    assert!(rt; ends(abort(alloc, true, Stmt::Pause(0)))?);
+    assert!(rt; !ends(abort(alloc, false, Stmt::Pause(0)))?);
+    assert!(rt; ends(suspend(alloc, Some(0), Stmt::Nothing))?);
+    assert!(rt; !ends(suspend(alloc, Some(0), Stmt::Pause(1)))?);
+    assert!(rt; ends(suspend(alloc, None, Stmt::Nothing))?);
     Ok(())
 }
 
 #[test]
-fn marks(rt: HostRuntime) -> Result<(), Fail> {
-    let alloc = rt.alloc();
-    let inner = looped(alloc, 1, scope(alloc, 1, Stmt::Pause(0))?)?;
-    let outer = looped(alloc, 0, scope(alloc, 0, inner)?)?;
-    let beside = Stmt::Par(pair(alloc, outer, scope(alloc, 2, Stmt::Pause(1))?)?);
-    let m = module(alloc, beside)?;
-    let deep = marks_of(alloc, &m, 1)?;
-    assert_eq!(rt; deep.as_slice(), [Mark::Zero, Mark::Loop(0), Mark::Loop(1)].as_slice());
-    assert_eq!(rt; marks_of(alloc, &m, 0)?.as_slice(), [Mark::Zero, Mark::Loop(0)].as_slice());
-    assert_eq!(rt; marks_of(alloc, &m, 2)?.as_slice(), [Mark::Zero].as_slice());
+fn marks_of_locals(rt: HostRuntime) -> Result<(), Fail> {
+    let deep = marks(rt.alloc(), module(rt.alloc(), nested(rt.alloc()))?, 1)?;
+    assert_eq!(rt;
+        deep.as_slice(),
+        [Mark::Zero, Mark::Loop(0), Mark::Loop(1)].as_slice()
+    );
+    let shallow = marks(rt.alloc(), module(rt.alloc(), nested(rt.alloc()))?, 0)?;
+    assert_eq!(rt; shallow.as_slice(), [Mark::Zero, Mark::Loop(0)].as_slice());
+    let beside = marks(rt.alloc(), module(rt.alloc(), nested(rt.alloc()))?, 2)?;
+    assert_eq!(rt; beside.as_slice(), [Mark::Zero].as_slice());
     Ok(())
 }

@@ -30,6 +30,7 @@ pub fn operators_keep_types()
     ensures apply2 { (op : Op2) → IsTyped2 (type2_of op) (Fits2 op) (apply2_of op) }
     ensures choose { IsTyped3 choose_type FitsChoose choose_of }
     ensures bit { (i : ℕ) → IsTyped1 (λ t. bit_type t i) (λ a. FitsBit a i) (λ a. bit_of a i) }
-    ensures slice { (high low : ℕ) → IsTyped1 (λ t. slice_type t high low) (λ a. FitsSlice a high low) (λ a. slice_of a high low) }
+    ensures slice { (high low : ℕ) →
+        IsTyped1 (λ t. slice_type t high low) (λ a. FitsSlice a high low) (λ a. slice_of a high low) }
     ensures concat { IsTyped2 concat_type FitsConcat concat_of }
 {}

@@ -1,5 +1,8 @@
 //! Tables of what the operators give, worked out by hand.
 
+ghost use Rattle.std.specs.Prelude.{◌≡◌};
+ghost use Rattle.qz_values.specs.Fits.{HasType};
+
 use crate::{
     Know, Op1, Op2, Ty, Value, apply1, apply2, bit, choose, concat, operators_are_monotone,
     operators_keep_types, order_is_partial, slice, type1, type2,
@@ -11,7 +14,7 @@ const MAX: u64 = u64::MAX;
 const TOP: u64 = 1 << 63;
 
 /// What an operator gives of two known values of one type, if it takes them.
-fn pair(op: Op2, ty: Ty, a: u64, b: u64) -> Option<Know> {
+fn of_pair(op: Op2, ty: Ty, a: u64, b: u64) -> Option<Know> {
     let v = Value::new(ty, a)?;
     let w = Value::new(ty, b)?;
     let _result = type2(op, ty, ty)?;
@@ -19,7 +22,7 @@ fn pair(op: Op2, ty: Ty, a: u64, b: u64) -> Option<Know> {
 }
 
 #[test]
-fn two_known(rt: HostRuntime) -> Result<(), Fail> {
+fn both_operands_known(rt: HostRuntime) {
     let byte = Ty::Bv(8);
     let word = Ty::Bv(64);
     let digit = Ty::Bv(1);
@@ -46,35 +49,56 @@ fn two_known(rt: HostRuntime) -> Result<(), Fail> {
         (Op2::Imp, Ty::Bool, 1, 1, Ty::Bool, 1),
     ];
     for (op, ty, a, b, result, bits) in table {
-        let want = Value::new(result, bits).ok_or("no such value")?;
-        let got = pair(op, ty, a, b).ok_or("no such operands")?;
-        assert_eq!(rt; got, Know::Known(want), "{op:?} of {a} and {b}");
+        let want = Value::new(result, bits).map(Know::Known);
+        assert!(rt;
+            want.is_some() && of_pair(op, ty, a, b) == want,
+            "{op:?} of {a} and {b}"
+        );
     }
-    Ok(())
+}
+
+/// What is known of a bool, which is unknown at `None`.
+fn seen(b: Option<bool>) -> Know
+    ensures { HasType Ty.Bool result }
+{
+    match b {
+        Some(b) => Know::Known(Value::truth(b)),
+        None => Know::Unknown,
+    }
 }
 
 #[test]
-fn partly_known(rt: HostRuntime) {
-    let yes = Know::Known(Value::truth(true));
-    let no = Know::Known(Value::truth(false));
-    let none = Know::Unknown;
-    let clash = Know::Clash;
-    assert_eq!(rt; apply2(Op2::And, none, no), no);
-    assert_eq!(rt; apply2(Op2::And, yes, none), none);
-    assert_eq!(rt; apply2(Op2::Or, yes, none), yes);
-    assert_eq!(rt; apply2(Op2::Or, none, no), none);
-    assert_eq!(rt; apply2(Op2::Imp, no, none), yes);
-    assert_eq!(rt; apply2(Op2::Imp, none, yes), yes);
-    assert_eq!(rt; apply2(Op2::Imp, none, no), none);
-    assert_eq!(rt; apply2(Op2::And, no, clash), clash);
-    assert_eq!(rt;
-        apply2(Op2::And, Know::Known(Value::zero_of(Ty::Bv(4))), none),
-        none
-    );
-    assert_eq!(rt; choose(yes, no, clash), no);
-    assert_eq!(rt; choose(no, clash, none), none);
-    assert_eq!(rt; choose(none, yes, yes), none);
-    assert_eq!(rt; choose(clash, yes, yes), clash);
+fn an_operand_unknown(rt: HostRuntime) {
+    let table = [
+        (Op2::And, None, Some(false), Some(false)),
+        (Op2::And, Some(true), None, None),
+        (Op2::Or, Some(true), None, Some(true)),
+        (Op2::Or, None, Some(false), None),
+        (Op2::Xor, None, Some(true), None),
+        (Op2::Imp, Some(false), None, Some(true)),
+        (Op2::Imp, None, Some(true), Some(true)),
+        (Op2::Imp, None, Some(false), None),
+        (Op2::Imp, Some(true), None, None),
+    ];
+    for (op, a, b, want) in table {
+        let taken = type2(op, Ty::Bool, Ty::Bool).is_some();
+        assert!(rt;
+            taken && apply2(op, seen(a), seen(b)) == seen(want),
+            "{op:?} of {a:?} and {b:?}"
+        );
+    }
+    let zero = Know::Known(Value::zero_of(Ty::Bv(4)));
+    assert!(rt; apply2(Op2::And, zero, Know::Unknown) == Know::Unknown);
+    assert!(rt; apply2(Op2::And, seen(Some(false)), Know::Clash) == Know::Clash);
+}
+
+#[test]
+fn chosen(rt: HostRuntime) {
+    let no = seen(Some(false));
+    assert!(rt; choose(seen(Some(true)), no, Know::Clash) == no);
+    assert!(rt; choose(seen(Some(false)), Know::Clash, Know::Unknown) == Know::Unknown);
+    assert!(rt; choose(Know::Unknown, no, no) == Know::Unknown);
+    assert!(rt; choose(Know::Clash, no, no) == Know::Clash);
 }
 
 /// The knowledge of a vector's bits, if it has them.
@@ -85,24 +109,6 @@ fn part(width: u8, bits: u64, high: u8, low: u8) -> Option<Know> {
     } else {
         None
     }
-}
-
-#[test]
-fn parts(rt: HostRuntime) -> Result<(), Fail> {
-    let table = [
-        (8, 0xa5, 7, 4, 4, 0xa),
-        (8, 0xa5, 7, 0, 8, 0xa5),
-        (64, MAX, 63, 0, 64, MAX),
-        (64, TOP, 63, 63, 1, 1),
-        (1, 1, 0, 0, 1, 1),
-    ];
-    for (width, bits, high, low, result, wanted) in table {
-        let want = Value::new(Ty::Bv(result), wanted).ok_or("no such value")?;
-        let got = part(width, bits, high, low).ok_or("no such bits")?;
-        assert_eq!(rt; got, Know::Known(want), "bits {high} to {low} of {bits}");
-    }
-    assert_eq!(rt; slice(Know::Unknown, 3, 0), Know::Unknown);
-    Ok(())
 }
 
 /// The knowledge of a vector's bit, if it has it.
@@ -116,7 +122,7 @@ fn one_bit(width: u8, bits: u64, i: u8) -> Option<Know> {
 }
 
 /// The knowledge of two vectors joined, if there is room for both.
-fn pair_joined(high: (u8, u64), low: (u8, u64)) -> Option<Know> {
+fn joined(high: (u8, u64), low: (u8, u64)) -> Option<Know> {
     let v = Value::new(Ty::Bv(high.0), high.1)?;
     let w = Value::new(Ty::Bv(low.0), low.1)?;
     if high.0 <= 64 - low.0 {
@@ -127,75 +133,91 @@ fn pair_joined(high: (u8, u64), low: (u8, u64)) -> Option<Know> {
 }
 
 #[test]
-fn bits_and_joins(rt: HostRuntime) -> Result<(), Fail> {
-    for (width, bits, i, want) in [(64, TOP, 63, true), (64, TOP, 62, false), (1, 1, 0, true)] {
-        let got = one_bit(width, bits, i).ok_or("no such bit")?;
-        assert_eq!(rt; got, Know::Known(Value::truth(want)), "bit {i} of {bits}");
+fn parts_of_vectors(rt: HostRuntime) {
+    let parts = [
+        (8, 0xa5, 7, 4, 4, 0xa),
+        (8, 0xa5, 7, 0, 8, 0xa5),
+        (64, MAX, 63, 0, 64, MAX),
+        (64, TOP, 63, 63, 1, 1),
+        (1, 1, 0, 0, 1, 1),
+    ];
+    for (width, bits, high, low, result, wanted) in parts {
+        let want = Value::new(Ty::Bv(result), wanted).map(Know::Known);
+        assert!(rt;
+            want.is_some() && part(width, bits, high, low) == want,
+            "bits {high} to {low} of {bits}"
+        );
     }
-    let table = [
+    for (width, bits, i, want) in [(64, TOP, 63, true), (64, TOP, 62, false), (1, 1, 0, true)] {
+        let want = Know::Known(Value::truth(want));
+        assert!(rt; one_bit(width, bits, i) == Some(want), "bit {i} of {bits}");
+    }
+    let joins = [
         ((4, 0xa), (4, 0x5), 8, 0xa5),
         ((1, 1), (63, 0), 64, TOP),
         ((63, 0), (1, 1), 64, 1),
         ((32, 0xffff_ffff), (32, 0xffff_ffff), 64, MAX),
     ];
-    for (high, low, width, bits) in table {
-        let want = Value::new(Ty::Bv(width), bits).ok_or("no such value")?;
-        let got = pair_joined(high, low).ok_or("no room")?;
-        assert_eq!(rt; got, Know::Known(want), "{bits}");
+    for (high, low, width, bits) in joins {
+        let want = Value::new(Ty::Bv(width), bits).map(Know::Known);
+        assert!(rt; want.is_some() && joined(high, low) == want, "{bits}");
     }
-    assert_eq!(rt; pair_joined((33, 0), (32, 0)), None);
-    assert_eq!(rt; concat(Know::Unknown, Know::Clash), Know::Clash);
-    Ok(())
 }
 
 /// What an operator gives of a known value, if it takes it.
-fn single(op: Op1, ty: Ty, bits: u64) -> Option<Know> {
+fn of_one(op: Op1, ty: Ty, bits: u64) -> Option<Know> {
     let v = Value::new(ty, bits)?;
     let _result = type1(op, ty)?;
     Some(apply1(op, Know::Known(v)))
 }
 
 #[test]
-fn one_known(rt: HostRuntime) -> Result<(), Fail> {
+fn one_operand(rt: HostRuntime) {
     let table = [
-        (Op1::Not, Ty::Bool, 0, 1),
-        (Op1::Not, Ty::Bool, 1, 0),
-        (Op1::Invert, Ty::Bv(64), 0, MAX),
-        (Op1::Invert, Ty::Bv(64), MAX, 0),
-        (Op1::Invert, Ty::Bv(8), 0x0f, 0xf0),
-        (Op1::Invert, Ty::Bv(1), 1, 0),
+        (Op1::Not, Ty::Bool, 0, Some(1)),
+        (Op1::Not, Ty::Bool, 1, Some(0)),
+        (Op1::Not, Ty::Bv(1), 1, None),
+        (Op1::Invert, Ty::Bv(64), 0, Some(MAX)),
+        (Op1::Invert, Ty::Bv(64), MAX, Some(0)),
+        (Op1::Invert, Ty::Bv(8), 0x0f, Some(0xf0)),
+        (Op1::Invert, Ty::Bv(1), 1, Some(0)),
+        (Op1::Invert, Ty::Bool, 1, None),
     ];
     for (op, ty, bits, wanted) in table {
-        let want = Value::new(ty, wanted).ok_or("no such value")?;
-        let got = single(op, ty, bits).ok_or("no such operand")?;
-        assert_eq!(rt; got, Know::Known(want), "{op:?} of {bits}");
+        let want = match wanted {
+            Some(bits) => Value::new(ty, bits).map(Know::Known),
+            None => None,
+        };
+        assert!(rt; of_one(op, ty, bits) == want, "{op:?} of {bits}");
     }
-    assert_eq!(rt; apply1(Op1::Not, Know::Clash), Know::Clash);
-    Ok(())
 }
 
 #[test]
 fn there_is_no_such(rt: HostRuntime) {
-    assert_eq!(rt; Value::new(Ty::Bv(0), 0), None);
-    assert_eq!(rt; Value::new(Ty::Bv(65), 0), None);
-    assert_eq!(rt; Value::new(Ty::Bv(8), 256), None);
-    assert_eq!(rt; Value::new(Ty::Bool, 2), None);
-    assert_eq!(rt; type1(Op1::Not, Ty::Bv(1)), None);
-    assert_eq!(rt; type1(Op1::Invert, Ty::Bool), None);
-    assert_eq!(rt; type2(Op2::And, Ty::Bool, Ty::Bv(1)), None);
-    assert_eq!(rt; type2(Op2::Imp, Ty::Bv(1), Ty::Bv(1)), None);
-    assert_eq!(rt; type2(Op2::Add, Ty::Bv(8), Ty::Bv(9)), None);
-    assert_eq!(rt; type2(Op2::Lt, Ty::Bool, Ty::Bool), None);
-    assert_eq!(rt; type2(Op2::Eq, Ty::Bv(65), Ty::Bv(65)), None);
-    assert_eq!(rt; type2(Op2::Le, Ty::Bv(64), Ty::Bv(64)), Some(Ty::Bool));
+    for (ty, bits) in [
+        (Ty::Bv(0), 0),
+        (Ty::Bv(65), 0),
+        (Ty::Bv(8), 256),
+        (Ty::Bool, 2),
+    ] {
+        assert!(rt; Value::new(ty, bits).is_none(), "{ty:?}");
+    }
+    let table = [
+        (Op2::And, Ty::Bool, Ty::Bv(1)),
+        (Op2::Imp, Ty::Bv(1), Ty::Bv(1)),
+        (Op2::Add, Ty::Bv(8), Ty::Bv(9)),
+        (Op2::Lt, Ty::Bool, Ty::Bool),
+        (Op2::Eq, Ty::Bv(65), Ty::Bv(65)),
+    ];
+    for (op, a, b) in table {
+        assert!(rt; type2(op, a, b).is_none(), "{op:?}");
+    }
 }
 
 #[test]
 fn a_value_is_seen(rt: HostRuntime) -> Result<(), Fail> {
     let value = Value::new(Ty::Bv(64), MAX).ok_or("no such value")?;
-    assert_eq!(rt; value.ty(), Ty::Bv(64));
-    assert_eq!(rt; value.bits(), MAX);
-    assert_eq!(rt; Value::zero_of(Ty::Bool), Value::truth(false));
+    assert!(rt; value.ty() == Ty::Bv(64) && value.bits() == MAX);
     operators_are_monotone();
     operators_keep_types();
     order_is_partial();

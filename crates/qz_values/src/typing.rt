@@ -7,8 +7,8 @@ ghost use Rattle.qz_values.specs.Tables.{type1_of, type2_of, takes2, gives2};
 use crate::words::width;
 use crate::{Op1, Op2, Ty};
 
-/// The type of what an operator with one operand gives. `None` where it has no operand of this type,
-/// or where this is no type, its width being outside 1 to 64.
+/// The type of what an operator with one operand gives. `None` where it takes no operand of this
+/// type, or where this is no type, its width being outside 1 to 64.
 pub fn type1(op: Op1, a: Ty) -> Option<Ty>
     ensures { result ≡ type1_of op a }
 {
@@ -19,7 +19,7 @@ pub fn type1(op: Op1, a: Ty) -> Option<Ty>
     if taken { Some(a) } else { None }
 }
 
-/// The type of what an operator with two operands gives. `None` where it has no operands of these
+/// The type of what an operator with two operands gives. `None` where it takes no operands of these
 /// types, or where one of them is no type, its width being outside 1 to 64.
 pub fn type2(op: Op2, a: Ty, b: Ty) -> Option<Ty>
     ensures { result ≡ type2_of op a b }

@@ -1,9 +1,9 @@
 -- The first entry with the name is written in place, or there was none and one is appended.
-use Rattle.std.proofs.Common.{rules, ◌≡◌, ◌≢◌, ℕ, ◌<◌, true, false, List, Option, Some, None, length, get_or, sym, ◌∙◌, ap, refl}
+use Rattle.std.proofs.Common.{rules, ◌≡◌, ℕ, true, List, Some, None, sym, ◌∙◌, ap}
 use Rattle.std.specs.List.{position}
 use Rattle.std.proofs.lemmas.List.Quantifiers.{position-Some}
 use Rattle.std.proofs.lemmas.Slice.Eq.{bytes_eq-Decides}
-use Rattle.qz_io.specs.Entries.{Entry, has_name, held_in}
+use Rattle.qz_io.specs.Entries.{Entry, has_name}
 use Rattle.qz_io.proofs.EntriesLemmas.{has_name-other, held_in-set_other, held_in-set_same, held_in-push_other, held_in-push_same, held_in-no_place}
 use Rattle.qz_io.proofs.entries.put_entry.Goals as goal
 use Rattle.qz_io.proofs.entries.put_entry.Goals.{After-drop-entry, In_ok-push-in-None}

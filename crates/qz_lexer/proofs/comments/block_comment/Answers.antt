@@ -1,7 +1,7 @@
-use Rattle.std.proofs.Common.{◌≡◌, ◌∷◌, ap, sym, ◌∙◌, lit<, drop, subst, IsUtf8}
+use Rattle.std.proofs.Common.{◌≡◌, ◌∷◌, ap, sym, ◌∙◌, lit<, subst}
 use Rattle.std.specs.Str.{chars}
 use Rattle.qz_lexer.proofs.TextLemmas.{chars_two, not_two, utf8_past_two}
-use Rattle.qz_lexer.specs.Fronts.{Takes}
+use Rattle.qz_lexer.specs.Runs.{Takes}
 use Rattle.qz_lexer.specs.Blanks.{IsBlockComment}
 use Rattle.qz_lexer.proofs.CommentLemmas.{no_block_start, no_block_end, takes_block, no_end, end_chars, end_first}
 use Rattle.qz_lexer.proofs.comments.block_comment.Goals as goal

@@ -1,5 +1,4 @@
 use Rattle.std.proofs.Common.{◌≡◌, ◌∷◌, ap, sym, ◌∙◌, lit<}
-use Rattle.std.specs.Str.{chars}
 use Rattle.qz_lexer.proofs.TextLemmas.{chars_two, not_two}
 use Rattle.qz_lexer.proofs.CommentLemmas.{no_line, takes_line}
 use Rattle.qz_lexer.proofs.comments.line_comment.Goals as goal

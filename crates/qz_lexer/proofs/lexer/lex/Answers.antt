@@ -1,23 +1,23 @@
-use Rattle.std.proofs.Common.{◌≡◌, ◌≢◌, ℕ, ◌-◌, List, [], ◌++◌, map, length, Ok, Err, Result, IsUtf8, sym, ap, ◌∙◌, arith, rules}
+use Rattle.std.proofs.Common.{◌≢◌, [], ◌++◌, map, length, Ok, Err, IsUtf8, sym, ap, ◌∙◌, rules}
 use Rattle.std.specs.Str.{chars}
 use Rattle.std.proofs.lemmas.Bool.{eqb-true, eqb-false}
-use Rattle.qz_lexer.specs.Lexemes.{Lexeme, lexeme, lexeme_at, Lexes, byte_count}
+use Rattle.qz_lexer.specs.Lexemes.{lexeme, lexeme_at, Lexes}
 use Rattle.qz_lexer.proofs.TextLemmas.{chars_empty, chars_some}
+use Rattle.qz_lexer.proofs.SliceLemmas.{tokens_are_slices}
 use Rattle.qz_lexer.proofs.CutLemmas.{lexes_same}
-use Rattle.qz_lexer.proofs.LexLemmas.{texts, rest_le, offset_is, cut_more, cut_all, cut_stuck, piece_shortens}
-use Rattle.qz_lexer.proofs.lexer.lex.Given as given
+use Rattle.qz_lexer.proofs.LexLemmas.{texts, split_so_far, cut_more, cut_all, cut_stuck, piece_shortens}
 use Rattle.qz_lexer.proofs.lexer.lex.Goals as goal
 use Rattle.qz_lexer.proofs.lexer.lex.Goals.{After-drop-tokens, After-loop-rest}
 
-pub overflow_sub-offset : goal.overflow_sub-offset
-overflow_sub-offset c = rest_le _ _ _ c.utf8.text c.loop-rest.invariant.utf8 c.loop-rest.invariant.so_far
+pub text_before-requires : goal.text_before-requires
+text_before-requires c = (let so_far = c.loop-rest.invariant.so_far in (texts so_far.pieces, split_so_far so_far))
 
 -- where no piece begins, the outcome is this offset
-fault : (c : After-drop-tokens) → Lexes (chars c.args.text.now) (Err (length c.args.text.now - length c.loop-rest.rest.now))
+fault : (c : After-drop-tokens) → Lexes (chars c.args.text.now) (Err (length c.text_before.result.now))
 fault c =
     let so_far = c.loop-rest.invariant.so_far in
     let more : chars c.loop-rest.rest.now ≢ [] = chars_some _ c.loop-rest.invariant.utf8 (eqb-false _ _ (sym c.loop-rest-test.ensures)) in
-    cut_stuck _ _ _ so_far more c.in_default.ensures _ (offset_is _ _ _ c.utf8.text c.loop-rest.invariant.utf8 so_far)
+    cut_stuck _ _ _ so_far more c.in_default.ensures _ (ap length (c.text_before.ensures.bytes _ (split_so_far so_far)))
 
 pub returns-in_default-clause-found : goal.returns-in_default-clause-found
 returns-in_default-clause-found c = fault c
@@ -35,7 +35,7 @@ loop-rest-preserved c =
     let so_far = c.loop-rest.invariant.so_far in
     let begins = c.in-Some.ensures in
     let bytes = c.text_before-piece.ensures.bytes begins.front begins.split in
-    let offset = offset_is _ _ _ c.utf8.text c.loop-rest.invariant.utf8 so_far in
+    let offset = ap length (c.text_before.ensures.bytes _ (split_so_far so_far)) in
     record {
       utf8 = search rules;
       so_far = cut_more _ _ _ _ _ c.in-Some.front.kind so_far begins
@@ -51,3 +51,6 @@ returns-clause-found c = tokens c
 
 pub returns-clause-only : goal.returns-clause-only
 returns-clause-only c outcome other = lexes_same _ _ _ (tokens c) other
+
+pub returns-clause-slices : goal.returns-clause-slices
+returns-clause-slices c = tokens_are_slices c.args.text.now _ c.utf8.text (tokens c)

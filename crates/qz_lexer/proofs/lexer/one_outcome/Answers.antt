@@ -1,5 +1,8 @@
 use Rattle.qz_lexer.proofs.CutLemmas.{lexes_same}
+use Rattle.qz_lexer.proofs.ExistLemmas.{outcome_exists}
 use Rattle.qz_lexer.proofs.lexer.one_outcome.Goals as goal
 
 pub returns : goal.returns
-returns c = lexes_same
+returns c text =
+    let found = outcome_exists text in
+    record { outcome = found.0; has = found.1; only = λ other has. lexes_same text other found.0 has found.1 }

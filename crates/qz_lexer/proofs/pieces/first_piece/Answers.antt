@@ -1,5 +1,4 @@
-use Rattle.std.proofs.Common.{◌≡◌, ◌∷◌, sym, ap, ◌∙◌, subst}
-use Rattle.std.specs.Str.{chars}
+use Rattle.std.proofs.Common.{sym, ◌∙◌, subst}
 use Rattle.qz_lexer.specs.declared.starts.Start.TheVariants.{Space}
 use Rattle.qz_lexer.specs.Starts.{StartsWith}
 use Rattle.qz_lexer.proofs.PieceLemmas.{begins_space, none_begins_empty}

@@ -1,5 +1,5 @@
-use Rattle.std.proofs.Common.{◌≡◌, ℕ, ◌+◌, ◌-◌, ◌≤◌, List, ◌++◌, length, sym, refl, ap, ◌∙◌, subst, arith, IsUtf8, encode_utf8_all, length-append}
-use Rattle.std.specs.Str.{chars, IsCharBoundary}
+use Rattle.std.proofs.Common.{length, ap, ◌∙◌, arith, encode_utf8_all, length-append}
+use Rattle.std.specs.Str.{chars}
 use Rattle.qz_lexer.proofs.TextLemmas.{bytes_before, seam, front_bytes, front_chars}
 use Rattle.qz_lexer.proofs.runs.text_before.Goals as goal
 

@@ -1,5 +1,4 @@
-use Rattle.std.proofs.Common.{◌≡◌, ◌∷◌, ◌≤◌, ap, sym, ◌∙◌, lit<, arith}
-use Rattle.std.specs.Str.{chars}
+use Rattle.std.proofs.Common.{◌≡◌, ◌∷◌, ap, sym, ◌∙◌, lit<, arith}
 use Rattle.qz_lexer.proofs.TextLemmas.{chars_two, not_two}
 use Rattle.qz_lexer.proofs.ValueLemmas.{no_value_start, no_value_count, takes_value}
 use Rattle.qz_lexer.proofs.values.value.Goals as goal
@@ -21,7 +20,7 @@ returns-else-count-ge1 c =
     let text : c.args.text.now ≡ 39 ∷ 100 ∷ c.in_ok-digits.digits.now = found.1.1 ∙ ap (λ l. 39 ∷ 100 ∷ l) (sym found.2) in
     no_value_count _ _ _ _ (chars_two 39 100 _ _ (lit< tt) (lit< tt) c.utf8.text text) c.skip-count.ensures
     (λ some few.
-        elim c.else-count-ge1.branch [
-          | else-count-ge1-via-then-count-ge1+else-count-le20 w ↦ omega arith
-          | else-count-ge1-via-else-count-ge1 w ↦ omega arith
-        ])
+    elim c.else-count-ge1.branch [
+      | else-count-ge1-via-then-count-ge1+else-count-le20 w ↦ omega arith
+      | else-count-ge1-via-else-count-ge1 w ↦ omega arith
+    ])

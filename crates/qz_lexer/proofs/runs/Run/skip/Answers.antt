@@ -1,17 +1,17 @@
-use Rattle.std.proofs.Common.{◌≡◌, ℕ, ◌+◌, ◌≤◌, ◌++◌, List, [], ◌∷◌, length, true, false, not, IsUtf8, sym, refl, ap, ◌∙◌, subst, arith, rules}
+use Rattle.std.proofs.Common.{◌≡◌, ◌+◌, ◌≤◌, ◌++◌, [], ◌∷◌, length, true, false, sym, ap, ◌∙◌, subst, arith}
 use Rattle.std.specs.Str.{chars}
 use Rattle.std.specs.Char.{encode_utf8}
-use Rattle.std.proofs.lemmas.Str.{chars_past_char, chars-nil}
+use Rattle.std.proofs.lemmas.Str.{chars_past_char}
 use Rattle.qz_lexer.specs.Runs.{Stops, Skips, accepts}
 use Rattle.qz_lexer.proofs.TextLemmas.{shorter_by_char, chars_empty}
-use Rattle.qz_lexer.proofs.RunLemmas.{skips_none, skips_more, stops_cons, skips_at_none}
+use Rattle.qz_lexer.proofs.RunLemmas.{skips_more, stops_cons, skips_at_none}
 use Rattle.qz_lexer.proofs.runs.Run.skip.Goals as goal
 
 pub returns-then-not-accepts : goal.returns-then-not-accepts
 returns-then-not-accepts c =
     let inv = c.loop-c.invariant in
     let text : chars c.loop-c.rest.now ≡ c.in-Some.c ∷ chars c.next.new.self.rest.now =
-        chars_past_char _ _ _ inv.utf8 (sym inv.same ∙ c.in-Some.ensures.steps.0) in
+    chars_past_char _ _ _ inv.utf8 (sym inv.same ∙ c.in-Some.ensures.steps.0) in
     let refused : accepts c.args.self c.in-Some.c ≡ false = cc in
     skips_at_none _ _ _ _ inv.goes_on (stops_cons _ _ _ _ text refused)
 
@@ -20,7 +20,7 @@ loop-c-preserved c =
     let inv = c.loop-c.invariant in
     let left : c.as_str-rest.result.now ≡ c.next.new.self.rest.now = c.as_str-rest.ensures in
     let text : chars c.loop-c.rest.now ≡ c.in-Some.c ∷ chars c.as_str-rest.result.now =
-        chars_past_char _ _ _ inv.utf8 (sym inv.same ∙ c.in-Some.ensures.steps.0) ∙ ap (λ t. c.in-Some.c ∷ chars t) (sym left) in
+    chars_past_char _ _ _ inv.utf8 (sym inv.same ∙ c.in-Some.ensures.steps.0) ∙ ap (λ t. c.in-Some.c ∷ chars t) (sym left) in
     let accepted : accepts c.args.self c.in-Some.c ≡ true = cc in
     record {
       can_next = tt;
