@@ -3,8 +3,6 @@ use Rattle.std.specs.Prelude.{ℕ, ◌≡◌, ◌≢◌, ◌⊎◌, List, Option
 use Rattle.std.specs.Io.KnownBytes.{append_known}
 use Rattle.qz_io.specs.Counts.{Rose}
 use Rattle.qz_io.specs.Held.{Held, held_under}
-use Rattle.qz_io.specs.declared.answers.FileFault.{FileFault}
-use Rattle.qz_io.specs.declared.answers.FileFault.TheVariants as fault
 use Rattle.qz_driver.specs.declared.status.Status.{Status}
 use Rattle.qz_driver.specs.declared.status.Status.TheVariants as status
 use Rattle.qz_driver.specs.Commands.{Request, verilog_file}
@@ -126,16 +124,11 @@ pub record IsDone (asked : Option Request) (old new : Seen) : Type 0 where
 pub record IsComplete (asked : Option Request) (old new : Seen) (result : Status) : Type 0 where
   pub usage : asked ≡ None → ¬ Rose old.faults new.faults → (result ≡ status.Usage) ⊎ (result ≡ status.NoMemory)
   pub absent : (request : Request) → asked ≡ Some request → IsSome old.held → held_under old.held request.file ≡ None →
-    ¬ Rose old.read_faults new.read_faults → ¬ Rose old.faults new.faults →
-    (result ≡ status.Refused) ⊎ (result ≡ status.NoMemory)
+      ¬ Rose old.read_faults new.read_faults → ¬ Rose old.faults new.faults →
+      (result ≡ status.Refused) ⊎ (result ≡ status.NoMemory)
   pub there : (request : Request) → asked ≡ Some request → IsSome old.held → held_under old.held request.file ≢ None →
-    ¬ Rose old.read_faults new.read_faults → ¬ Rose old.write_faults new.write_faults → ¬ Rose old.faults new.faults →
-    (result ≡ status.Refused) ⊎ (result ≡ status.Done) ⊎ (result ≡ status.NoMemory)
-
--- how the call ends where a write didn't succeed
-abbrev pub status_of : FileFault → Status
-status_of fault.Failed = status.WriteFault
-status_of fault.Memory = status.NoMemory
+      ¬ Rose old.read_faults new.read_faults → ¬ Rose old.write_faults new.write_faults → ¬ Rose old.faults new.faults →
+      (result ≡ status.Refused) ⊎ (result ≡ status.Done) ⊎ (result ≡ status.NoMemory)
 
 -- what putting the file answers: a count rose only where it failed, and want of memory leaves what is held
 abbrev pub IsPutAnswer : Status → ℕ → ℕ → Option Held → Option Held → Type 0

@@ -18,7 +18,7 @@ abbrev pub line_of : Cause → List ℕ
 line_of Usage = codes "usage: quartzc MODE NAME FILE...\n"
 line_of (Absent file) = file ++ codes ": absent\n"
 line_of (NotBuilt file) = file ++ codes ": not built yet\n"
-line_of (InstantLoop number name) = codes "loop " ++ decimal number ++ codes " of " ++ name ++ codes " may end at once\n"
+line_of (InstantLoop number name) = codes "loop " ++ (decimal number ++ (codes " of " ++ (name ++ codes " may end at once\n")))
 
 -- what is said, as a cause
 abbrev pub cause_of : Refusal → Cause

@@ -55,7 +55,10 @@ fn verilog_of_text<'w>(alloc: Global, build: Build<'w>, bytes: &[u8]) -> Result<
     };
     match module {
         Ok(module) => match instant_loop(&module.body) {
-            Some(number) => Err(Stop::Refused(Refusal::InstantLoop { module: module.name, number })),
+            Some(number) => Err(Stop::Refused(Refusal::InstantLoop {
+                module: module.name,
+                number,
+            })),
             None => Ok(write_v(alloc, &circuit(alloc, module)?)?),
         },
         Err(NoSource::NotBuilt) => Err(Stop::Refused(Refusal::NotBuilt { file: build.file })),

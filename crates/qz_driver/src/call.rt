@@ -7,7 +7,7 @@ ghost use Rattle.qz_io.specs.Counts.{Rose};
 ghost use Rattle.qz_io.specs.Held.{held_under};
 ghost use Rattle.qz_driver.specs.Commands.{asked, verilog_file};
 ghost use Rattle.qz_driver.specs.Causes.{cause_of, line_of};
-ghost use Rattle.qz_driver.specs.Answers.{seen, status_of, IsPutAnswer, IsUsage, IsRefused, IsReadFault, IsWriteFault, IsNoMemory, IsDone, IsComplete};
+ghost use Rattle.qz_driver.specs.Answers.{seen, IsPutAnswer, IsUsage, IsRefused, IsReadFault, IsWriteFault, IsNoMemory, IsDone, IsComplete};
 
 use crate::build::{Stop, verilog_of};
 use crate::reader::MAX_BYTES;
@@ -51,7 +51,8 @@ pub fn quartzc<F: Files, O: Sink>(
         Some(build) => run_build(alloc, build, files, out),
         None => match say(alloc, &Refusal::Usage, out) {
             Ok(()) => Status::Usage,
-            Err(fault) => write_status(fault),
+            Err(FileFault::Failed) => Status::WriteFault,
+            Err(FileFault::Memory) => Status::NoMemory,
         },
     }
 }
@@ -95,7 +96,8 @@ fn run_build<F: Files, O: Sink>(
         Err(Stop::Memory) => Status::NoMemory,
         Err(Stop::Refused(refusal)) => match say(alloc, &refusal, out) {
             Ok(()) => Status::Refused,
-            Err(fault) => write_status(fault),
+            Err(FileFault::Failed) => Status::WriteFault,
+            Err(FileFault::Memory) => Status::NoMemory,
         },
     }
 }
@@ -113,7 +115,8 @@ fn put<F: Files>(alloc: Global, name: &str, text: &[u8], files: &mut F) -> Statu
     };
     match files.put(alloc, file.as_str(), text) {
         Ok(()) => Status::Done,
-        Err(fault) => write_status(fault),
+        Err(FileFault::Failed) => Status::WriteFault,
+        Err(FileFault::Memory) => Status::NoMemory,
     }
 }
 
@@ -128,14 +131,4 @@ fn say<O: Sink>(alloc: Global, refusal: &Refusal<'_>, out: &mut O) -> Result<(),
 {
     let line = refusal.line(alloc)?;
     out.put(alloc, line.as_bytes())
-}
-
-/// How the call ended where a write didn't succeed.
-fn write_status(fault: FileFault) -> Status
-    ensures { result ≡ status_of fault }
-{
-    match fault {
-        FileFault::Failed => Status::WriteFault,
-        FileFault::Memory => Status::NoMemory,
-    }
 }

@@ -22,7 +22,11 @@ pub fn circuit(alloc: Global, m: Module) -> Result<VModule, AllocError> {
     depth(&mut c, &m.body, act)?;
     enter(&mut c, &m.body, start)?;
     moves(&mut c, &m.body)?;
-    let Circuit { mut wires, writes, rests } = c;
+    let Circuit {
+        mut wires,
+        writes,
+        rests,
+    } = c;
     let outs = outs(alloc, &mut wires, m.formals.len(), writes.as_slice())?;
     let nexts = nexts(alloc, &mut wires, places, rests.as_slice(), act)?;
     Ok(VModule {
@@ -73,12 +77,7 @@ fn nexts(
 }
 
 /// One more net that drives the number's.
-fn drive(
-    wires: &mut Wires,
-    nets: &mut [Ref],
-    number: usize,
-    more: Ref,
-) -> Result<(), AllocError> {
+fn drive(wires: &mut Wires, nets: &mut [Ref], number: usize, more: Ref) -> Result<(), AllocError> {
     if number < nets.len() {
         nets[number] = wires.or(nets[number], more)?;
     }
@@ -96,7 +95,10 @@ fn initial(alloc: Global, places: usize) -> Result<Items<Value>, AllocError> {
 fn ports(alloc: Global, formals: &[Formal]) -> Result<Items<Port>, AllocError> {
     let mut ports = Items::new(alloc);
     for formal in formals {
-        ports.push(Port { name: formal.name.clone()?, ty: formal.ty })?;
+        ports.push(Port {
+            name: formal.name.clone()?,
+            ty: formal.ty,
+        })?;
     }
     Ok(ports)
 }

@@ -13,13 +13,13 @@ mod refusal;
 mod source;
 mod status;
 mod surface;
+#[cfg(test)]
+mod tests;
 mod typing;
 mod verilog;
 mod vtext;
 mod wires;
 mod words;
-#[cfg(test)]
-mod tests;
 
 pub use call::quartzc;
 pub use status::Status;

@@ -39,7 +39,11 @@ impl Circuit {
     }
 
     pub fn write(&mut self, output: u32, guard: Ref, value: Ref) -> Result<(), AllocError> {
-        self.writes.push(DrivenWrite { output, guard, value })?;
+        self.writes.push(DrivenWrite {
+            output,
+            guard,
+            value,
+        })?;
         Ok(())
     }
 

@@ -127,7 +127,11 @@ fn source_module(alloc: Global, cursor: &mut Cursor<'_, '_>) -> Result<SourceMod
     let formals = formals(alloc, cursor)?;
     cursor.pass("{")?;
     let body = statements(alloc, cursor, 2)?;
-    Ok(SourceModule { name, formals, body })
+    Ok(SourceModule {
+        name,
+        formals,
+        body,
+    })
 }
 
 /// The formals, and the `)` after them.
@@ -175,11 +179,7 @@ fn statements(
 
 /// A statement of this level.
 #[cycle(statement)]
-fn statement(
-    alloc: Global,
-    cursor: &mut Cursor<'_, '_>,
-    level: u32,
-) -> Result<SourceStmt, NoSource>
+fn statement(alloc: Global, cursor: &mut Cursor<'_, '_>, level: u32) -> Result<SourceStmt, NoSource>
     ensures { OnOk result (Advances cursor.old.tokens.now cursor.new.tokens.now cursor.old.read cursor.new.read) }
 {
     if level > MAX_LEVEL {

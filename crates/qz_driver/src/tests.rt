@@ -140,7 +140,10 @@ fn answers(rt: HostRuntime) -> Result<(), Fail> {
         always(None, Status::Done, Some(ALWAYS_TEXT)),
         always(Some(0), Status::ReadFault, None),
         always(Some(1), Status::WriteFault, None),
-        Row { text: None, ..refused("", "t.qz: absent\n") },
+        Row {
+            text: None,
+            ..refused("", "t.qz: absent\n")
+        },
         refused(
             "module T(event !o){ loop { emit o; } }",
             "loop 0 of T may end at once\n",
@@ -149,7 +152,12 @@ fn answers(rt: HostRuntime) -> Result<(), Fail> {
         usage(&["build", "T"]),
         usage(&["build", "-x", "t.qz"]),
         usage(&[]),
-        Row { sink_fails: Some(0), status: Status::WriteFault, line: "", ..usage(&["build", "T"]) },
+        Row {
+            sink_fails: Some(0),
+            status: Status::WriteFault,
+            line: "",
+            ..usage(&["build", "T"])
+        },
     ];
     for row in &rows {
         assert_row(&rt, rt.alloc(), row)?;

@@ -39,7 +39,10 @@ pub fn typed(alloc: Global, name: &str, source: SourceModule) -> Result<Module, 
     if !is_asked(name, &source) {
         return Err(NoSource::NotBuilt);
     }
-    let mut counts = Counts { places: 0, loops: 0 };
+    let mut counts = Counts {
+        places: 0,
+        loops: 0,
+    };
     let body = body(alloc, &source, &mut counts)?;
     let labels = unlabeled(alloc, counts.places)?;
     small(module_of(alloc, source, labels, counts.loops, body))
@@ -134,7 +137,11 @@ fn statement(
         SourceStmt::Loop(body) => {
             let turn = counts.turn()?;
             let body = statement(alloc, numbers, counts, body.get())?;
-            Ok(Stmt::Loop(turn, Boxed::new(alloc, body)?, Expr::Lit(Value::truth(true))))
+            Ok(Stmt::Loop(
+                turn,
+                Boxed::new(alloc, body)?,
+                Expr::Lit(Value::truth(true)),
+            ))
         }
         SourceStmt::Block(parts) => statements(alloc, numbers, counts, parts.as_slice()),
     }

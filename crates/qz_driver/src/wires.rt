@@ -13,7 +13,9 @@ pub struct Wires {
 
 impl Wires {
     pub fn new(alloc: Global) -> Wires {
-        Wires { table: IndexSet::new(alloc) }
+        Wires {
+            table: IndexSet::new(alloc),
+        }
     }
 
     /// The right sides in the order of the wires' numbers.
