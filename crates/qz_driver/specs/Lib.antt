@@ -4,3 +4,7 @@ pub mod Causes
 pub mod Answers
 pub mod Reading
 pub mod Stops
+pub mod Mirror
+pub mod FirstLanguage
+pub mod Verilog
+pub mod Does
