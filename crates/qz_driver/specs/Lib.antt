@@ -1,0 +1,6 @@
+pub mod Status
+pub mod Commands
+pub mod Causes
+pub mod Answers
+pub mod Reading
+pub mod Stops

@@ -1,0 +1,67 @@
+//! The mode `build`: from the held bytes to the text that is put, or to what stands against them.
+
+ghost use Rattle.std.specs.Prelude.{◌≡◌, ◌≤◌, ◌^◌, length, IfErr, IfOk, MatchResult};
+ghost use Rattle.qz_io.specs.Answers.{IfBytes, IsAbsent};
+ghost use Rattle.qz_driver.specs.Stops.{StopsAt, MadeFrom, StopsInText};
+
+use crate::circuit::circuit;
+use crate::instant_loop::instant_loop;
+use crate::reader::{NoSource, read_source};
+use crate::refusal::Refusal;
+use crate::typing::typed;
+use crate::vtext::write_v;
+use crate::words::Build;
+use qz_io::Got;
+use std::alloc::{AllocError, Global};
+
+/// Why no text is made.
+#[derive(Debug, Drop)]
+pub enum Stop<'w> {
+    /// This stands against the input.
+    Refused(Refusal<'w>),
+    Memory,
+}
+
+impl From<AllocError> for Stop<'_> {
+    ghost use Rattle.qz_driver.specs.declared.build.Stop.TheVariants.{Memory};
+
+    ghost from_gives = { λ _ stop. stop ≡ Memory };
+
+    fn from(_: AllocError) -> Self {
+        Stop::Memory
+    }
+}
+
+/// The Verilog text of the module that was asked for, from what was found under the file's name.
+pub fn verilog_of<'w>(alloc: Global, build: Build<'w>, got: &Got) -> Result<String, Stop<'w>>
+    requires { IfBytes got.now (λ bytes. length bytes ≤ 1048576) }
+    ensures { MatchResult result (λ _. MadeFrom got.now) (StopsAt build.entry.file.now got.now) }
+{
+    match got {
+        Got::Absent => Err(Stop::Refused(Refusal::Absent { file: build.file })),
+        Got::TooLong => Err(Stop::Refused(Refusal::NotBuilt { file: build.file })),
+        Got::Bytes(bytes) => verilog_of_text(alloc, build, bytes.as_slice()),
+    }
+}
+
+/// The same from the file's bytes.
+fn verilog_of_text<'w>(alloc: Global, build: Build<'w>, bytes: &[u8]) -> Result<String, Stop<'w>>
+    requires { length bytes.now ≤ 1048576 }
+    ensures { IfErr result (StopsInText build.entry.file.now) }
+{
+    let module = match read_source(alloc, bytes) {
+        Ok(source) => typed(alloc, build.name, source),
+        Err(fault) => Err(fault),
+    };
+    match module {
+        Ok(module) => match instant_loop(&module.body) {
+            Some(number) => Err(Stop::Refused(Refusal::InstantLoop {
+                module: module.name,
+                number,
+            })),
+            None => Ok(write_v(alloc, &circuit(alloc, module)?)?),
+        },
+        Err(NoSource::NotBuilt) => Err(Stop::Refused(Refusal::NotBuilt { file: build.file })),
+        Err(NoSource::Memory) => Err(Stop::Memory),
+    }
+}

@@ -1,0 +1,25 @@
+//! The call that the program `quartzc` makes: from its words to the file that is put.
+#![tactic(auto)]
+
+mod build;
+mod call;
+mod circuit;
+mod control;
+mod depth;
+mod instant_loop;
+mod parts;
+mod reader;
+mod refusal;
+mod source;
+mod status;
+mod surface;
+#[cfg(test)]
+mod tests;
+mod typing;
+mod verilog;
+mod vtext;
+mod wires;
+mod words;
+
+pub use call::quartzc;
+pub use status::Status;

@@ -1,0 +1,166 @@
+//! The answers of the call over files and a sink in memory, row by row.
+use crate::{Status, quartzc};
+use qz_io::{MemFiles, MemSink};
+use std::alloc::{AllocError, Global};
+use std::process::Abort;
+use std::test::Fail;
+
+/// What a call is given and what it has to answer.
+#[derive(Drop)]
+struct Row {
+    words: &'static [&'static str],
+    /// What is held under `t.qz`, if anything is.
+    text: Option<&'static str>,
+    /// The number of the call on the files that fails, and on the sink.
+    file_fails: Option<u64>,
+    sink_fails: Option<u64>,
+    status: Status,
+    /// What is written.
+    line: &'static str,
+    /// What is held under `T.v` afterwards, if anything is.
+    put: Option<&'static str>,
+}
+
+const BUILD: &[&str] = &["build", "T", "t.qz"];
+
+const USAGE: &str = "usage: quartzc MODE NAME FILE...\n";
+
+const ALWAYS: &str = "module T(event !o){ loop { emit o; pause; } }";
+
+const ALWAYS_TEXT: &str = "module q_T(
+  input clk,
+  output o_o
+);
+  reg r_0;
+  reg r_1;
+  wire w_0;
+  assign w_0 = ~r_1;
+  wire w_1;
+  assign w_1 = 1'b1;
+  wire w_2;
+  assign w_2 = 1'b0;
+  wire w_3;
+  assign w_3 = w_0 | r_0;
+  assign o_o = w_3;
+  initial begin
+    r_0 = 1'b0;
+    r_1 = 1'b0;
+  end
+  always @(posedge clk) begin
+    r_0 <= w_3;
+    r_1 <= w_1;
+  end
+endmodule
+";
+
+/// `build T t.qz` of a text that is refused.
+fn refused(text: &'static str, line: &'static str) -> Row {
+    Row {
+        words: BUILD,
+        text: Some(text),
+        file_fails: None,
+        sink_fails: None,
+        status: Status::Refused,
+        line,
+        put: None,
+    }
+}
+
+/// Words that break a rule.
+fn usage(words: &'static [&'static str]) -> Row {
+    Row {
+        words,
+        text: Some(ALWAYS),
+        file_fails: None,
+        sink_fails: None,
+        status: Status::Usage,
+        line: USAGE,
+        put: None,
+    }
+}
+
+/// `build T t.qz` of the program that always emits.
+fn always(file_fails: Option<u64>, status: Status, put: Option<&'static str>) -> Row {
+    Row {
+        words: BUILD,
+        text: Some(ALWAYS),
+        file_fails,
+        sink_fails: None,
+        status,
+        line: "",
+        put,
+    }
+}
+
+fn texts(alloc: Global, words: &[&str]) -> Result<Vec<String>, AllocError> {
+    let mut texts = Vec::new(alloc);
+    for word in words {
+        texts.push(String::from_str(alloc, word)?)?;
+    }
+    Ok(texts)
+}
+
+/// The bytes that are held under a name.
+fn held<'f>(files: &'f MemFiles, name: &str) -> Option<&'f [u8]> {
+    for (other, bytes) in files.held.as_slice() {
+        if other.as_str() == name {
+            return Some(bytes.as_slice());
+        }
+    }
+    None
+}
+
+/// Makes the call of a row, and asserts its answer.
+fn assert_row(rt: &impl Abort, alloc: Global, row: &Row) -> Result<(), AllocError> {
+    let mut files = MemFiles::new(alloc);
+    let mut sink = MemSink::new(alloc);
+    if let Some(text) = row.text {
+        let bytes = Vec::from_slice(alloc, text.as_bytes())?;
+        files.held.push((String::from_str(alloc, "t.qz")?, bytes))?;
+    }
+    if let Some(call) = row.file_fails {
+        files.fail.push(call)?;
+    }
+    if let Some(call) = row.sink_fails {
+        sink.fail.push(call)?;
+    }
+    let words = texts(alloc, row.words)?;
+    let status = quartzc(alloc, words.as_slice(), &mut files, &mut sink);
+    let (line, text) = (row.line, row.text);
+    assert!(rt; status == row.status, "{status:?} for {text:?}");
+    assert!(rt; sink.bytes.as_slice() == line.as_bytes(), "{text:?}");
+    let put = held(&files, "T.v");
+    assert!(rt; put == row.put.map(|text| text.as_bytes()), "{text:?}");
+    Ok(())
+}
+
+#[test]
+fn answers(rt: HostRuntime) -> Result<(), Fail> {
+    let rows = [
+        always(None, Status::Done, Some(ALWAYS_TEXT)),
+        always(Some(0), Status::ReadFault, None),
+        always(Some(1), Status::WriteFault, None),
+        Row {
+            text: None,
+            ..refused("", "t.qz: absent\n")
+        },
+        refused(
+            "module T(event !o){ loop { emit o; } }",
+            "loop 0 of T may end at once\n",
+        ),
+        refused("module T(event ?a, !o){ emit o; }", "t.qz: not built yet\n"),
+        usage(&["build", "T"]),
+        usage(&["build", "-x", "t.qz"]),
+        usage(&[]),
+        Row {
+            sink_fails: Some(0),
+            status: Status::WriteFault,
+            line: "",
+            ..usage(&["build", "T"])
+        },
+    ];
+    for row in &rows {
+        assert_row(&rt, rt.alloc(), row)?;
+    }
+    Ok(())
+}
