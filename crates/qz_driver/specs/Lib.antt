@@ -8,3 +8,4 @@ pub mod Mirror
 pub mod FirstLanguage
 pub mod Verilog
 pub mod Does
+pub mod VerilogText

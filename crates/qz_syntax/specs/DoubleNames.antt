@@ -23,9 +23,11 @@ abbrev pub are_distinct : List Name → Bool
 are_distinct [] = true
 are_distinct (name ∷ names) = not (is_among names name) && are_distinct names
 
+-- the names of some formals
 abbrev pub formal_names : List Formal → List Name
 formal_names formals = map (λ (formal : Formal). formal.name) formals
 
+-- the names of some prototypes
 abbrev pub proto_names : List Proto → List Name
 proto_names protos = map (λ (proto : Proto). proto.name) protos
 

@@ -36,6 +36,7 @@ abbrev pub own_instant : Stmt-F Ending → List ℕ
 own_instant (Stmt-F.Loop number body condition) = if body.may_end then number ∷ [] else []
 own_instant other = []
 
+-- one statement, with that of each part in its place
 abbrev pub node_ending : List Bool → Stmt-F Ending → Ending
 node_ending callees node = record {
   may_end = node_may_end callees (map-Stmt Ending Bool (λ (part : Ending). part.may_end) node);

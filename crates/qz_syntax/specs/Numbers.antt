@@ -23,27 +23,33 @@ parts_of leaf = []
 abbrev pub in_tree_order : (Stmt-F (List ℕ) → List ℕ) → Stmt → List ℕ
 in_tree_order own = fold-Stmt (List ℕ) (λ node. own node ++ concat (parts_of node))
 
+-- a pause has its place, and an immediate suspend its hold place
 abbrev pub own_places : Stmt-F (List ℕ) → List ℕ
 own_places (Stmt-F.Pause place) = place ∷ []
 own_places (Stmt-F.Suspend kind hold body condition) = option_to_list hold
 own_places other = []
 
+-- an immediate suspend has its hold place
 abbrev pub own_holds : Stmt-F (List ℕ) → List ℕ
 own_holds (Stmt-F.Suspend kind hold body condition) = option_to_list hold
 own_holds other = []
 
+-- a loop has its number
 abbrev pub own_loops : Stmt-F (List ℕ) → List ℕ
 own_loops (Stmt-F.Loop number body condition) = number ∷ []
 own_loops other = []
 
+-- a scope has the numbers of its locals
 abbrev pub own_locals : Stmt-F (List ℕ) → List ℕ
 own_locals (Stmt-F.Scope locals body) = locals
 own_locals other = []
 
+-- a call has its number
 abbrev pub own_calls : Stmt-F (List ℕ) → List ℕ
 own_calls (Stmt-F.Call number proto arguments) = number ∷ []
 own_calls other = []
 
+-- a bound body has the numbers of its arguments
 abbrev pub own_arguments : Stmt-F (List ℕ) → List ℕ
 own_arguments (Stmt-F.Bind bindings body) = map (λ (binding : Binding). binding.number) bindings
 own_arguments other = []
@@ -56,6 +62,7 @@ places_of = in_tree_order own_places
 abbrev pub holds_of : Stmt → List ℕ
 holds_of = in_tree_order own_holds
 
+-- the loops
 abbrev pub loops_of : Stmt → List ℕ
 loops_of = in_tree_order own_loops
 
@@ -63,6 +70,7 @@ loops_of = in_tree_order own_loops
 abbrev pub locals_of : Stmt → List ℕ
 locals_of = in_tree_order own_locals
 
+-- the calls
 abbrev pub calls_of : Stmt → List ℕ
 calls_of = in_tree_order own_calls
 
@@ -74,6 +82,7 @@ arguments_of = in_tree_order own_arguments
 abbrev pub depth_of : Stmt → ℕ
 depth_of = fold-Stmt ℕ (λ node. 1 + fold max 0 (parts_of node))
 
+-- one statement, given whether each part is free of callees' bodies
 abbrev pub node_is_unbound : Stmt-F Bool → Bool
 node_is_unbound (Stmt-F.Bind bindings body) = false
 node_is_unbound other = list_all (λ part. part) (parts_of other)

@@ -33,6 +33,7 @@ abbrev pub argument_nodes : Arg → ℕ
 argument_nodes (In value) = expression_nodes value
 argument_nodes (Out variable) = 0
 
+-- a bound argument's expression
 abbrev pub binding_nodes : Binding → ℕ
 binding_nodes binding = expression_nodes binding.value
 

@@ -57,6 +57,7 @@ abbrev pub types_bound : Declared → Sight → List Binding → List (ℕ × Ty
 types_bound declared sight bindings =
     filter_map (λ (binding : Binding). option_map (λ t. (binding.number, t)) (type_at declared sight binding.value)) bindings
 
+-- whether a bound argument has a type where it is bound
 abbrev pub has_type : Declared → Sight → Binding → Bool
 has_type declared sight binding = is_some (type_at declared sight binding.value)
 
@@ -69,9 +70,11 @@ abbrev pub is_hold_of : Kind → Option ℕ → Bool
 is_hold_of kind (Some place) = kind.immediate
 is_hold_of kind None = if kind.immediate then false else true
 
+-- inside a scope its locals may be named too
 abbrev pub with_locals : Sight → List ℕ → Sight
 with_locals sight locals = record { locals = locals ++ sight.locals; bound = sight.bound }
 
+-- inside a bound body its arguments may be read too
 abbrev pub with_bound : Sight → List (ℕ × Ty) → Sight
 with_bound sight types = record { locals = sight.locals; bound = types ++ sight.bound }
 

@@ -12,6 +12,7 @@ reserved_words =
     ∷ codes "do" ∷ codes "while" ∷ codes "loop" ∷ codes "every" ∷ codes "weak" ∷ codes "abort" ∷ codes "suspend" ∷ codes "when"
     ∷ codes "assert" ∷ codes "assume" ∷ codes "always" ∷ codes "choose" ∷ codes "during" ∷ codes "final" ∷ codes "sustain" ∷ []
 
+-- whether these characters are a reserved word
 abbrev pub is_reserved : List ℕ → Bool
 is_reserved characters = list_any (λ word. bytes_eq word characters) reserved_words
 

@@ -54,6 +54,7 @@ pub record Sight : Type 0 where
 abbrev pub no_sight : Sight
 no_sight = record { locals = []; bound = [] }
 
+-- whether the number is one of those
 abbrev pub contains_number : List ℕ → ℕ → Bool
 contains_number numbers n = list_any (λ number. number == n) numbers
 
@@ -74,9 +75,11 @@ pub record Target : Type 0 where
   pub class : Class
   pub ty : Ty
 
+-- an output may be written, and an input may not
 abbrev pub formal_target : Formal → Option Target
 formal_target formal = elim formal.dir [ dir.In ↦ None | dir.Out ↦ Some (record { class = formal.class; ty = formal.ty }) ]
 
+-- a local may be written
 abbrev pub decl_target : Decl → Target
 decl_target decl = record { class = decl.class; ty = decl.ty }
 
@@ -87,6 +90,7 @@ written_as declared sight (var.Local n) =
     if contains_number sight.locals n then option_map decl_target (slice_get declared.decls n) else None
 written_as declared sight (var.Bound n) = None
 
+-- whether two classes are one
 abbrev pub is_same_class : Class → Class → Bool
 is_same_class Event Event = true
 is_same_class Event Mem = false

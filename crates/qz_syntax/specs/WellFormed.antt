@@ -21,6 +21,7 @@ use Rattle.qz_syntax.specs.DoubleNames.{HasDistinctNames, HasDistinctProtos}
 abbrev pub declared_by : List Proto → Module → Declared
 declared_by protos m = record { protos = protos; formals = m.formals; decls = m.decls }
 
+-- whether the place has no label
 abbrev pub is_unlabelled : List (Option Name) → ℕ → Bool
 is_unlabelled labels place = is_none (option_and_then (λ label. label) (slice_get labels place))
 
@@ -31,6 +32,7 @@ pub record IsNumbered (m : Module) : Type 0 where
   pub locals : locals_of m.body ≡ range_with_len 0 (length m.decls)
   pub calls : calls_of m.body ≡ range_with_len 0 m.calls
 
+-- whether the type of each formal is one that there is
 abbrev pub have_types : List Formal → Bool
 have_types formals = list_all (λ (formal : Formal). is_type formal.ty) formals
 
@@ -51,6 +53,7 @@ pub record IsModule (protos : List Proto) (m : Module) : Type 0 where
   pub formals : length m.formals ≤ 256
   pub depth : depth_of m.body ≤ 600
 
+-- whether a prototype has at most 256 formals
 abbrev pub has_few_formals : Proto → Bool
 has_few_formals proto = nat_le (length proto.formals) 256
 

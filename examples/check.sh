@@ -1,0 +1,52 @@
+#!/usr/bin/env bash
+# Runs the built program over real files and compares its answers: the examples of this folder, and
+# a call for each status that real files can bring about.
+set -u
+here=$(cd "$(dirname "${BASH_SOURCE[0]}")" && pwd)
+program=$here/../crates/quartzc/out/quartzc
+folder=$(mktemp -d)
+trap 'rm -rf "$folder"' EXIT
+cd "$folder" || exit 2
+passed=0
+failed=0
+
+# expect STATUS LINE WORDS..: the call ends so and writes this line
+expect() {
+    local want_status=$1 want_line=$2 line status
+    shift 2
+    line=$("$program" "$@")
+    status=$?
+    if [ "$status" = "$want_status" ] && [ "$line" = "$want_line" ]; then
+        passed=$((passed + 1))
+    else
+        failed=$((failed + 1))
+        echo "failed: quartzc $*: status $status, line '$line'"
+    fi
+}
+
+# same FILE OTHER: the files are equal
+same() {
+    if cmp -s "$1" "$2"; then passed=$((passed + 1)); else failed=$((failed + 1)); echo "failed: $1 differs"; fi
+}
+
+usage='usage: quartzc MODE NAME FILE...'
+cp "$here"/*.qz .
+expect 0 '' build T T.qz
+same T.v "$here/T.v"
+expect 0 '' build Blink Blink.qz
+same Blink.v "$here/Blink.v"
+expect 1 'no.qz: absent' build T no.qz
+expect 1 'T.qz: not built yet' build U T.qz
+printf 'module T(event !o){ loop { emit o; } }' >loop.qz
+expect 1 'loop 0 of T may end at once' build T loop.qz
+printf 'module T(event ?a, !o){ emit o; }' >input.qz
+expect 1 'input.qz: not built yet' build T input.qz
+expect 2 "$usage" build T
+expect 2 "$usage" build -x t.qz
+expect 2 "$usage"
+expect 2 "$usage" build T $'\xff'
+expect 3 '' build T .
+rm T.v && mkdir T.v
+expect 4 '' build T T.qz
+echo "$passed passed, $failed failed"
+[ "$failed" = 0 ]
