@@ -56,8 +56,12 @@ abbrev pub wire_lines : ℕ → Rhs → List ℕ
 wire_lines number right =
     codes "  wire w_" ++ (decimal number ++ (codes ";\n  assign w_" ++ (decimal number ++ (codes " = " ++ (right_side_text right ++ codes ";\n")))))
 
+-- the rest of an assignment after its left side
+abbrev pub driver_text : Ref → List ℕ
+driver_text driver = codes " = " ++ (net_text driver ++ codes ";\n")
+
 abbrev pub output_line : Port → Ref → List ℕ
-output_line port driver = codes "  assign o_" ++ (name_text port.name ++ (codes " = " ++ (net_text driver ++ codes ";\n")))
+output_line port driver = codes "  assign o_" ++ (name_text port.name ++ driver_text driver)
 
 -- a line for each output and what drives it
 abbrev pub output_lines : List Port → List Ref → List ℕ
@@ -71,17 +75,28 @@ initial_line number value = codes "    r_" ++ (decimal number ++ (codes " = " ++
 abbrev pub clock_line : ℕ → Ref → List ℕ
 clock_line number source = codes "    r_" ++ (decimal number ++ (codes " <= " ++ (net_text source ++ codes ";\n")))
 
+-- the list of ports, which begins with the clock
+abbrev pub ports_text : List Port → List ℕ
+ports_text ports = codes "(\n  input clk" ++ (flat_map port_line ports ++ codes "\n);\n")
+
 -- the module's name and its ports
 abbrev pub header_text : VModule → List ℕ
-header_text m = codes "module q_" ++ (name_text m.name ++ (codes "(\n  input clk" ++ (flat_map port_line m.outputs ++ codes "\n);\n")))
+header_text m = codes "module q_" ++ (name_text m.name ++ ports_text m.outputs)
+
+abbrev pub initial_text : List Value → List ℕ
+initial_text regs = codes "  initial begin\n" ++ (numbered initial_line 0 regs ++ codes "  end\n")
+
+abbrev pub clock_text : List Ref → List ℕ
+clock_text nexts = codes "  always @(posedge clk) begin\n" ++ (numbered clock_line 0 nexts ++ codes "  end\n")
+
+-- the header, the registers and the wires
+abbrev pub declarations_text : VModule → List ℕ
+declarations_text m = header_text m ++ (numbered register_line 0 m.regs ++ numbered wire_lines 0 m.wires)
+
+-- what drives the outputs, and what the registers hold and take
+abbrev pub behavior_text : VModule → List ℕ
+behavior_text m = output_lines m.outputs m.outs ++ (initial_text m.regs ++ clock_text m.nexts)
 
 -- the whole text
 abbrev pub text_of : VModule → List ℕ
-text_of m =
-    header_text m
-    ++ (numbered register_line 0 m.regs
-    ++ (numbered wire_lines 0 m.wires
-    ++ (output_lines m.outputs m.outs
-    ++ (codes "  initial begin\n" ++ (numbered initial_line 0 m.regs ++ (codes "  end\n"
-    ++ (codes "  always @(posedge clk) begin\n" ++ (numbered clock_line 0 m.nexts ++ (codes "  end\n"
-    ++ codes "endmodule\n")))))))))
+text_of m = declarations_text m ++ (behavior_text m ++ codes "endmodule\n")

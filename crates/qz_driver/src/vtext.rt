@@ -2,7 +2,8 @@
 
 ghost use Rattle.std.specs.Prelude.{◌≡◌, ◌++◌, string_bytes, codes, drop, IfOk, OnOk};
 ghost use Rattle.std.specs.List.{flat_map};
-ghost use Rattle.qz_driver.specs.VerilogText.{text_of, header_text, name_text, character_text, constant_text, net_text, sign_text, right_side_text, port_line, register_line, wire_lines, output_line, output_lines, initial_line, clock_line, numbered};
+ghost use Rattle.std.specs.Str.{chars};
+ghost use Rattle.qz_driver.specs.VerilogText.{text_of, declarations_text, behavior_text, initial_text, clock_text, header_text, name_text, character_text, constant_text, net_text, sign_text, right_side_text, port_line, ports_text, driver_text, register_line, wire_lines, output_line, output_lines, initial_line, clock_line, numbered};
 
 use crate::verilog::{Ref, Rhs, VModule};
 use qz_syntax::{Name, Port};
@@ -14,43 +15,67 @@ pub fn write_v(alloc: Global, m: &VModule) -> Result<String, AllocError>
     ensures { IfOk result (λ text. string_bytes text ≡ text_of m.now) }
 {
     let mut text = String::new(alloc);
-    header(&mut text, m)?;
-    registers(&mut text, m.regs.as_slice())?;
-    wires(&mut text, m.wires.as_slice())?;
-    drivers(&mut text, m.outputs.as_slice(), m.outs.as_slice())?;
-    initial(&mut text, m.regs.as_slice())?;
-    clock(&mut text, m.nexts.as_slice())?;
+    declarations(alloc, &mut text, m)?;
+    behavior(alloc, &mut text, m)?;
     text.push_str("endmodule\n")?;
     Ok(text)
 }
 
+/// The header, the registers and the wires.
+fn declarations(alloc: Global, text: &mut String, m: &VModule) -> Result<(), AllocError>
+    ensures { OnOk result (string_bytes text.new ≡ string_bytes text.old ++ declarations_text m.now) }
+{
+    header(alloc, text, m)?;
+    registers(text, m.regs.as_slice())?;
+    wires(text, m.wires.as_slice())?;
+    Ok(())
+}
+
+/// What drives the outputs, and what the registers hold and take.
+fn behavior(alloc: Global, text: &mut String, m: &VModule) -> Result<(), AllocError>
+    ensures { OnOk result (string_bytes text.new ≡ string_bytes text.old ++ behavior_text m.now) }
+{
+    drivers(alloc, text, m.outputs.as_slice(), m.outs.as_slice())?;
+    initial(text, m.regs.as_slice())?;
+    clock(text, m.nexts.as_slice())?;
+    Ok(())
+}
+
 /// The module's name and its ports.
-fn header(text: &mut String, m: &VModule) -> Result<(), AllocError>
+fn header(alloc: Global, text: &mut String, m: &VModule) -> Result<(), AllocError>
     ensures { OnOk result (string_bytes text.new ≡ string_bytes text.old ++ header_text m.now) }
 {
     text.push_str("module q_")?;
-    push_name(text, &m.name)?;
+    push_name(alloc, text, &m.name)?;
+    inputs_and_outputs(alloc, text, m.outputs.as_slice())?;
+    Ok(())
+}
+
+/// The list of ports, which begins with the clock.
+fn inputs_and_outputs(alloc: Global, text: &mut String, outputs: &[Port]) -> Result<(), AllocError>
+    ensures { OnOk result (string_bytes text.new ≡ string_bytes text.old ++ ports_text outputs.now) }
+{
     text.push_str("(\n  input clk")?;
-    ports(text, m.outputs.as_slice())?;
+    ports(alloc, text, outputs)?;
     text.push_str("\n);\n")?;
     Ok(())
 }
 
 /// The outputs, each after a comma.
-fn ports(text: &mut String, outputs: &[Port]) -> Result<(), AllocError>
+fn ports(alloc: Global, text: &mut String, outputs: &[Port]) -> Result<(), AllocError>
     ensures { OnOk result (string_bytes text.new ≡ string_bytes text.old ++ flat_map port_line outputs.now) }
 {
     for output in outputs {
-        port(text, output)?;
+        port(alloc, text, output)?;
     }
     Ok(())
 }
 
-fn port(text: &mut String, output: &Port) -> Result<(), AllocError>
+fn port(alloc: Global, text: &mut String, output: &Port) -> Result<(), AllocError>
     ensures { OnOk result (string_bytes text.new ≡ string_bytes text.old ++ port_line output.now) }
 {
     text.push_str(",\n  output o_")?;
-    push_name(text, &output.name)?;
+    push_name(alloc, text, &output.name)?;
     Ok(())
 }
 
@@ -91,20 +116,37 @@ fn wire(text: &mut String, number: usize, right: Rhs) -> Result<(), AllocError>
 }
 
 /// An assignment for each output.
-fn drivers(text: &mut String, outputs: &[Port], outs: &[Ref]) -> Result<(), AllocError>
+fn drivers(
+    alloc: Global,
+    text: &mut String,
+    outputs: &[Port],
+    outs: &[Ref],
+) -> Result<(), AllocError>
     ensures { OnOk result (string_bytes text.new ≡ string_bytes text.old ++ output_lines outputs.now outs.now) }
 {
-    for (output, net) in outputs.iter().zip(outs) {
-        driver(text, output, *net)?;
-    }
-    Ok(())
+    let Some((output, outputs)) = outputs.split_first() else {
+        return Ok(());
+    };
+    let Some((net, outs)) = outs.split_first() else {
+        return Ok(());
+    };
+    driver(alloc, text, output, *net)?;
+    drivers(alloc, text, outputs, outs)
 }
 
-fn driver(text: &mut String, output: &Port, net: Ref) -> Result<(), AllocError>
+fn driver(alloc: Global, text: &mut String, output: &Port, net: Ref) -> Result<(), AllocError>
     ensures { OnOk result (string_bytes text.new ≡ string_bytes text.old ++ output_line output.now net) }
 {
     text.push_str("  assign o_")?;
-    push_name(text, &output.name)?;
+    push_name(alloc, text, &output.name)?;
+    driven_by(text, net)?;
+    Ok(())
+}
+
+/// The rest of an assignment after its left side.
+fn driven_by(text: &mut String, net: Ref) -> Result<(), AllocError>
+    ensures { OnOk result (string_bytes text.new ≡ string_bytes text.old ++ driver_text net) }
+{
     text.push_str(" = ")?;
     push_net(text, net)?;
     text.push_str(";\n")?;
@@ -113,14 +155,20 @@ fn driver(text: &mut String, output: &Port, net: Ref) -> Result<(), AllocError>
 
 /// The registers' initial values.
 fn initial(text: &mut String, regs: &[Value]) -> Result<(), AllocError>
-    ensures { OnOk result (string_bytes text.new ≡
-        string_bytes text.old ++ (codes "  initial begin\n" ++ (numbered initial_line 0 regs.now ++ codes "  end\n"))) }
+    ensures { OnOk result (string_bytes text.new ≡ string_bytes text.old ++ initial_text regs.now) }
 {
     text.push_str("  initial begin\n")?;
+    initial_values(text, regs)?;
+    text.push_str("  end\n")?;
+    Ok(())
+}
+
+fn initial_values(text: &mut String, regs: &[Value]) -> Result<(), AllocError>
+    ensures { OnOk result (string_bytes text.new ≡ string_bytes text.old ++ numbered initial_line 0 regs.now) }
+{
     for (number, value) in regs.iter().enumerate() {
         initial_value(text, number, *value)?;
     }
-    text.push_str("  end\n")?;
     Ok(())
 }
 
@@ -135,14 +183,20 @@ fn initial_value(text: &mut String, number: usize, value: Value) -> Result<(), A
 
 /// What the registers take at the clock.
 fn clock(text: &mut String, nexts: &[Ref]) -> Result<(), AllocError>
-    ensures { OnOk result (string_bytes text.new ≡
-        string_bytes text.old ++ (codes "  always @(posedge clk) begin\n" ++ (numbered clock_line 0 nexts.now ++ codes "  end\n"))) }
+    ensures { OnOk result (string_bytes text.new ≡ string_bytes text.old ++ clock_text nexts.now) }
 {
     text.push_str("  always @(posedge clk) begin\n")?;
+    next_values(text, nexts)?;
+    text.push_str("  end\n")?;
+    Ok(())
+}
+
+fn next_values(text: &mut String, nexts: &[Ref]) -> Result<(), AllocError>
+    ensures { OnOk result (string_bytes text.new ≡ string_bytes text.old ++ numbered clock_line 0 nexts.now) }
+{
     for (number, net) in nexts.iter().enumerate() {
         next_value(text, number, *net)?;
     }
-    text.push_str("  end\n")?;
     Ok(())
 }
 
@@ -202,13 +256,21 @@ fn push_net(text: &mut String, net: Ref) -> Result<(), AllocError>
 }
 
 /// A name's characters, each as Verilog takes it.
-fn push_name(text: &mut String, name: &Name) -> Result<(), AllocError>
+fn push_name(alloc: Global, text: &mut String, name: &Name) -> Result<(), AllocError>
     ensures { OnOk result (string_bytes text.new ≡ string_bytes text.old ++ name_text name.now) }
 {
-    for ch in name.as_str().chars() {
-        push_character(text, ch)?;
+    let characters = characters(alloc, name)?;
+    for character in characters.as_slice() {
+        push_character(text, *character)?;
     }
     Ok(())
+}
+
+/// A name's characters, of which there are at most 64.
+fn characters(alloc: Global, name: &Name) -> Result<Vec<char>, AllocError>
+    ensures { IfOk result (λ characters. characters.items ≡ name.now) }
+{
+    name.as_str().chars().collect(alloc)
 }
 
 fn push_character(text: &mut String, ch: char) -> Result<(), AllocError>
