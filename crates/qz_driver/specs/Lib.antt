@@ -8,3 +8,5 @@ pub mod Mirror
 pub mod FirstLanguage
 pub mod Verilog
 pub mod Does
+pub mod WireTable
+pub mod Driven
