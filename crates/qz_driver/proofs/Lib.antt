@@ -1,1 +1,4 @@
 mod NumberedLines
+pub mod WireLemmas
+pub mod Growing
+pub mod Walks

@@ -9,3 +9,5 @@ pub mod FirstLanguage
 pub mod Verilog
 pub mod Does
 pub mod VerilogText
+pub mod WireTable
+pub mod Driven

@@ -2,7 +2,7 @@
 
 use crate::control::{enter, moves};
 use crate::depth::depth;
-use crate::parts::{Circuit, DrivenPlace, DrivenWrite};
+use crate::parts::{DrivenPlace, DrivenWrite};
 use crate::surface::surface;
 use crate::verilog::{Ref, VModule};
 use crate::wires::Wires;
@@ -14,19 +14,16 @@ use std::alloc::{AllocError, Global};
 /// The circuit that does the module.
 pub fn circuit(alloc: Global, m: Module) -> Result<VModule, AllocError> {
     let places = m.labels.len();
-    let mut c = Circuit::new(alloc);
     let started = Ref::Reg(places as u64);
-    let start = c.wires.not(started)?;
-    let act = c.wires.constant(true)?;
-    surface(&mut c, &m.body, start)?;
-    depth(&mut c, &m.body, act)?;
-    enter(&mut c, &m.body, start)?;
-    moves(&mut c, &m.body)?;
-    let Circuit {
-        mut wires,
-        writes,
-        rests,
-    } = c;
+    let mut wires = Wires::new(alloc);
+    let mut writes = Vec::new(alloc);
+    let mut rests = Vec::new(alloc);
+    let start = wires.not(started)?;
+    let act = wires.constant(true)?;
+    surface(&mut wires, &mut writes, &m.body, start)?;
+    depth(&mut wires, &mut writes, &m.body, act)?;
+    enter(&mut wires, &mut rests, &m.body, start)?;
+    moves(&mut wires, &mut rests, &m.body)?;
     let outs = outs(alloc, &mut wires, m.formals.len(), writes.as_slice())?;
     let nexts = nexts(alloc, &mut wires, places, rests.as_slice(), act)?;
     Ok(VModule {
