@@ -1,0 +1,3 @@
+pub mod FirstInduction
+pub mod BitLemmas
+pub mod StartMirror
