@@ -6,6 +6,7 @@ pub mod Reading
 pub mod Stops
 pub mod Mirror
 pub mod FirstLanguage
+pub mod FirstWalk
 pub mod Verilog
 pub mod Does
 pub mod VerilogText

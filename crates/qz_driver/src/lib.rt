@@ -6,6 +6,7 @@ mod call;
 mod circuit;
 mod control;
 mod depth;
+pub mod first_runs;
 mod instant_loop;
 mod parts;
 mod reader;
