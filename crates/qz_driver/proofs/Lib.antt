@@ -5,3 +5,4 @@ pub mod Walks
 pub mod FirstInduction
 pub mod BitLemmas
 pub mod StartMirror
+pub mod MirrorAgrees
