@@ -7,5 +7,6 @@ pub mod Stops
 pub mod Mirror
 pub mod FirstLanguage
 pub mod FirstWalk
+pub mod FirstResumes
 pub mod Verilog
 pub mod Does
