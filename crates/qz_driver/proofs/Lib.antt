@@ -4,5 +4,9 @@ pub mod Growing
 pub mod Walks
 pub mod FirstInduction
 pub mod BitLemmas
+pub mod PlaceLemmas
 pub mod StartMirror
 pub mod MirrorAgrees
+pub mod ResumeMirror
+pub mod ResumeSequences
+pub mod FirstResuming

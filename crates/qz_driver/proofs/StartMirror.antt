@@ -41,11 +41,11 @@ pub record Starting (body other : Behavior) (mirror : Mirror) : Type 0 where
   pub unentered : (place : ℕ) → is_driven (mirror.enter false) place ≡ false
   pub enters_none : mirror.at_once ≡ true → (g : Bool) (place : ℕ) → is_driven (mirror.enter g) place ≡ false
 
-carried : {body same other like : Behavior} {mirror image : Mirror} → body ≡ same → other ≡ like → mirror ≡ image
+pub carried : {body same other like : Behavior} {mirror image : Mirror} → body ≡ same → other ≡ like → mirror ≡ image
     → Starting same like image → Starting body other mirror
 carried p q r t = rw (p, q, r) t
 
-starting-idle : Starting idle idle idle_mirror
+pub starting-idle : Starting idle idle idle_mirror
 starting-idle = record {
   starts = record {
     ends = λ ctx m. refl;
@@ -59,7 +59,7 @@ starting-idle = record {
   enters_none = λ h g place. refl;
 }
 
-starting-assignment : (scene other : Scene) (n : ℕ) (value : Expr) → bit_of value ≡ true
+pub starting-assignment : (scene other : Scene) (n : ℕ) (value : Expr) → bit_of value ≡ true
     → Starting (assignment scene false (var.Formal n) value) (assignment other false (var.Formal n) value)
     (record idle_mirror { start = λ g. driven (var.Formal n) value g })
 starting-assignment scene other n value h = record {
@@ -80,7 +80,7 @@ starting-assignment scene other n value h = record {
   enters_none = λ h g place. refl;
 }
 
-starting-pause : (number : ℕ) → Starting (pause number) (pause number) (pause_mirror number)
+pub starting-pause : (number : ℕ) → Starting (pause number) (pause number) (pause_mirror number)
 starting-pause number = record {
   starts = record {
     ends = λ ctx m. refl;
@@ -95,7 +95,7 @@ starting-pause number = record {
   enters_none = λ h g place. absurd (false≢true h);
 }
 
-starting-loop : (scene alike : Scene) (number : ℕ) (condition : Expr) (body other : Behavior) (mirror : Mirror)
+pub starting-loop : (scene alike : Scene) (number : ℕ) (condition : Expr) (body other : Behavior) (mirror : Mirror)
     → Starting body other mirror
     → Starting (repetition scene number body condition) (repetition alike number other condition) (loop_mirror mirror condition)
 starting-loop scene alike number condition body other mirror h = record {
@@ -117,7 +117,7 @@ starting-loop scene alike number condition body other mirror h = record {
 
 module _ (scene other : Scene) where
   -- a statement whose starts are as its bits say
-  abbrev Started : Stmt → Type 0
+  abbrev pub Started : Stmt → Type 0
   Started s = Starting (behavior scene s) (behavior other s) (mirror_of s)
 
   pub ends_all : (ctx : Context) (m : Mark) (parts : List Stmt) → AllByRecursion Started parts → (so_far : Bool)
@@ -210,12 +210,12 @@ module _ (scene other : Scene) where
       by_end true e later = rw (h.0.starts.ends ctx m, e) later
       by_end false e later = rw (h.0.starts.ends ctx m, e) (in_seq ((behavior scene s).rest ctx m) (h.0.fits ctx m))
 
-  meets_all : (m : Mark) (parts : List Stmt) → AllByRecursion Started parts
+  pub meets_all : (m : Mark) (parts : List Stmt) → AllByRecursion Started parts
       → flat_map (λ (part : Behavior). part.met_on_start m) (map (behavior scene) parts) ≡ []
   meets_all m [] h = refl
   meets_all m (s ∷ parts) h = ap₂ (λ xs ys. xs ++ ys) (h.0.starts.meets m) (meets_all m parts h.1)
 
-  starting-sequence : (parts : List Stmt) → AllByRecursion Started parts
+  pub starting-sequence : (parts : List Stmt) → AllByRecursion Started parts
       → Starting (sequence (map (behavior scene) parts)) (sequence (map (behavior other) parts)) (sequence_mirror (map mirror_of parts))
   starting-sequence parts h = record {
     starts = record {

@@ -7,6 +7,7 @@ pub mod Stops
 pub mod Mirror
 pub mod FirstLanguage
 pub mod FirstWalk
+pub mod FirstResumes
 pub mod Verilog
 pub mod Does
 pub mod VerilogText

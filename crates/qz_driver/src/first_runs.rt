@@ -1,14 +1,32 @@
 //! What programs of the first language do, by their bits.
 
-ghost use Rattle.std.specs.Prelude.{ℕ, IsTrue};
+ghost use Rattle.std.specs.Prelude.{ℕ, IsTrue, []};
 ghost use Rattle.qz_syntax.specs.declared.statements.Stmt.{Stmt};
+ghost use Rattle.qz_syntax.specs.declared.places.Residual.{Residual};
+ghost use Rattle.qz_syntax.specs.Numbers.{places_of};
 ghost use Rattle.qz_meaning.specs.Scenes.{Scene};
 ghost use Rattle.qz_meaning.specs.Walks.{behavior};
-ghost use Rattle.qz_driver.specs.Mirror.{mirror_of};
+ghost use Rattle.qz_meaning.specs.Valuations.{resting_places};
+ghost use Rattle.qz_driver.specs.Mirror.{Control, mirror_of};
 ghost use Rattle.qz_driver.specs.FirstLanguage.{is_first};
 ghost use Rattle.qz_driver.specs.FirstWalk.{StartsAs};
+ghost use Rattle.qz_driver.specs.FirstResumes.{AreDifferent, IsControl, ResumesAs, IsStill};
 
 /// A start of a statement of the first language is as its bits say.
 pub fn starts_as_its_bits()
     ensures { (outputs : ℕ) (s : Stmt) → IsTrue (is_first outputs s) → (scene : Scene) → StartsAs (behavior scene s) (mirror_of s) }
+{}
+
+/// A statement of the first language, whose places are all different, is resumed as its bits say where
+/// control rests in it.
+pub fn resumes_as_its_bits()
+    ensures { (outputs : ℕ) (s : Stmt) → IsTrue (is_first outputs s) → AreDifferent (places_of s)
+        → (scene : Scene) (control : Control) (r : Residual) → IsTrue ((behavior scene s).fits r)
+        → IsControl control (places_of s) (resting_places r) → ResumesAs (behavior scene s) (mirror_of s) control r }
+{}
+
+/// Where control isn't in it, none of its bits is true.
+pub fn is_still_where_control_is_away()
+    ensures { (outputs : ℕ) (s : Stmt) → IsTrue (is_first outputs s) → AreDifferent (places_of s)
+        → (control : Control) → IsControl control (places_of s) [] → IsStill (mirror_of s) control }
 {}

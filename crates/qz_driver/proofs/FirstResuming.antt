@@ -1,0 +1,220 @@
+-- Every statement of the first language, resumed, and its bits.
+use Rattle.std.proofs.Common.{◌≡◌, ℕ, zero, suc, ◌+◌, Bool, true, false, nat_lt, IsTrue, List, [], ◌∷◌, ◌++◌, map, drop, length, slice_get, Option, Some, None, refl, sym, ap, subst, ◌∙◌, arith, add-one, append-nil, if◌then◌else◌}
+use Rattle.std.specs.Option.{option_map}
+use Rattle.std.specs.List.{AllByRecursion, concat}
+use Rattle.std.proofs.lemmas.Bool.{and_parts, false≢true}
+use Rattle.qz_values.specs.Knowledge.{knows_yes}
+use Rattle.qz_values.specs.declared.Ty.TheVariants as ty
+use Rattle.qz_values.specs.declared.Know.TheVariants.{Unknown}
+use Rattle.qz_syntax.specs.declared.declarations.Class.TheVariants.{Event}
+use Rattle.qz_syntax.specs.declared.expressions.Var.TheVariants as var
+use Rattle.qz_syntax.specs.declared.expressions.Expr.{Expr}
+use Rattle.qz_syntax.specs.declared.places.Later.TheVariants as later
+use Rattle.qz_syntax.specs.declared.statements.Stmt.TheOpen.{Stmt-F}
+use Rattle.qz_syntax.specs.declared.places.Mark.TheVariants as mark
+use Rattle.qz_syntax.specs.declared.places.Residual.{Residual, out-Residual}
+use Rattle.qz_syntax.specs.declared.places.Residual.TheOpen.{Residual-F}
+use Rattle.qz_syntax.specs.declared.places.Residual.TheVariants.{InSeq}
+use Rattle.qz_syntax.specs.declared.statements.Stmt.{Stmt}
+use Rattle.qz_syntax.specs.declared.statements.Stmt.TheVariants as stmt
+use Rattle.qz_syntax.specs.Numbers.{places_of, own_places, parts_of}
+use Rattle.qz_syntax.proofs.Equations.{fold-Nothing, fold-Assign, fold-Pause, fold-Seq, fold-Loop}
+use Rattle.qz_meaning.specs.Scenes.{Scene, Context, contains}
+use Rattle.qz_meaning.specs.Behaviors.{Behavior, idle}
+use Rattle.qz_meaning.specs.Simple.{assignment}
+use Rattle.qz_meaning.specs.Sequences.{sequence, rest_in_first, member, fits_in_one}
+use Rattle.qz_meaning.specs.Walks.{behavior}
+use Rattle.qz_meaning.specs.Valuations.{node_places, resting_places}
+use Rattle.qz_meaning.proofs.Walking.{behavior-Nothing, behavior-Assign, behavior-Pause, behavior-Seq, behavior-Loop}
+use Rattle.qz_meaning.proofs.Folding.{fold-InSeq}
+use Rattle.qz_meaning.proofs.Resting.{out-InSeq}
+use Rattle.qz_driver.specs.Mirror.{Control, Mirror, sequence_mirror, driven, node_mirror, bit_of, mirror_of}
+use Rattle.qz_driver.specs.FirstLanguage.{is_first}
+use Rattle.qz_driver.specs.FirstWalk.{CanRest}
+use Rattle.qz_driver.specs.FirstResumes.{ResumesAs, IsStill, IsControl, AreDifferent}
+use Rattle.qz_driver.proofs.FirstInduction.{first_induction}
+use Rattle.qz_driver.proofs.BitLemmas.{drop_head}
+use Rattle.qz_driver.proofs.PlaceLemmas.{is-InSeq, different_left, different_right}
+use Rattle.qz_driver.proofs.StartMirror.{Started, fits_all, carried, starting-idle, starting-assignment, starting-pause, starting-loop, starting-sequence}
+use Rattle.qz_driver.proofs.ResumeMirror.{Resuming, resuming_carried, resuming-idle, resuming-pause, resuming-loop}
+use Rattle.qz_driver.proofs.ResumeSequences.{places_of_all, Resumed, Starts, Resumes, behaviors, Member, member_within, member_resumes, sequence_still, below}
+
+-- a residual that fits a sequence is in one of its members
+in_seq_of : (parts : List Behavior) (r : Residual) → fits_in_one parts (out-Residual r) ≡ true
+    → (number : ℕ) × (inside : Residual) × (r ≡ InSeq number inside) × (nat_lt number (length parts) ≡ true) × ((member parts number).fits inside ≡ true)
+in_seq_of parts r h = by_form (out-Residual r) refl h
+  where
+    by_form : (node : Residual-F Residual) → out-Residual r ≡ node → fits_in_one parts node ≡ true
+        → (number : ℕ) × (inside : Residual) × (r ≡ InSeq number inside) × (nat_lt number (length parts) ≡ true) × ((member parts number).fits inside ≡ true)
+    by_form (Residual-F.InSeq number inside) is e = let both = and_parts _ _ e in (number, inside, is-InSeq r number inside is, both.0, both.1)
+    by_form (Residual-F.At other) is e = absurd (false≢true e)
+    by_form (Residual-F.Hold place) is e = absurd (false≢true e)
+    by_form (Residual-F.InPar branches) is e = absurd (false≢true e)
+    by_form (Residual-F.InIf side inside) is e = absurd (false≢true e)
+    by_form (Residual-F.InBody inside) is e = absurd (false≢true e)
+    by_form (Residual-F.InScope stores inside) is e = absurd (false≢true e)
+    by_form (Residual-F.InCall call) is e = absurd (false≢true e)
+
+module _ (scene other : Scene) where
+  -- where control rests after a member is resumed, it can rest in the whole sequence
+  member_fits : (ctx : Context) (all : List Behavior) (r : Residual) (parts : List Stmt) → Starts scene other parts → Resumes scene other parts
+      → (offset number at : ℕ) → offset + number ≡ at → drop offset all ≡ behaviors other other parts
+      → nat_lt number (length (behaviors scene other parts)) ≡ true → (member (behaviors scene other parts) number).fits r ≡ true
+      → CanRest (sequence all) (
+      if knows_yes ((member (behaviors scene other parts) number).ended ctx r)
+      then rest_in_first ctx (drop (suc number) (behaviors scene other parts)) (suc at) mark.Zero
+      else option_map (λ q. InSeq at q) ((member (behaviors scene other parts) number).after ctx r)
+      )
+  member_fits ctx all r [] starts h offset number at sum is there fits = absurd (false≢true (grind arith))
+  member_fits ctx all r (s ∷ parts) starts h offset zero at sum is there fits =
+      subst (λ n. CanRest (sequence all) (
+      if knows_yes ((behavior scene s).ended ctx r)
+      then rest_in_first ctx (behaviors scene other parts) (suc n) mark.Zero
+      else option_map (λ q. InSeq n q) ((behavior scene s).after ctx r)
+      )) at_offset (by_end (knows_yes ((behavior scene s).ended ctx r)))
+    where
+      at_offset : offset ≡ at
+      at_offset = omega arith
+
+      head : (nat_lt offset (length all) ≡ true) × (slice_get all offset ≡ Some (behavior other s)) × (drop (suc offset) all ≡ map (behavior other) parts)
+      head = drop_head offset all (behavior other s) (map (behavior other) parts) is
+
+      in_seq : (inside : Option Residual) → CanRest (behavior other s) inside → CanRest (sequence all) (option_map (λ q. InSeq offset q) inside)
+      in_seq None k = tt
+      in_seq (Some q) k = rw (out-InSeq offset q) (rw (head.0, head.1) k)
+
+      by_end : (b : Bool) → CanRest (sequence all) (
+          if b then rest_in_first ctx (behaviors scene other parts) (suc offset) mark.Zero else option_map (λ q. InSeq offset q) ((behavior scene s).after ctx r)
+          )
+      by_end true = fits_all scene other ctx mark.Zero all parts starts.1 (suc offset) head.2
+      by_end false = in_seq ((behavior scene s).after ctx r) (h.0.fits ctx r fits)
+  member_fits ctx all r (s ∷ parts) starts h offset (suc number) at sum is there fits =
+      member_fits ctx all r parts starts.1 h.1 (suc offset) number at (omega arith)
+      (drop_head offset all (behavior other s) (map (behavior other) parts) is).2
+      (below number (length (behaviors scene other parts)) there) fits
+
+  sequence_resumes : (parts : List Stmt) (control : Control) (number : ℕ) (inside : Residual) → Member scene other control parts number inside
+      → ResumesAs (sequence (map (behavior scene) parts)) (sequence_mirror (map mirror_of parts)) control (InSeq number inside)
+  sequence_resumes parts control number inside h = record {
+    inside = h.inside;
+    ended = λ ctx. rw (out-InSeq number inside) (rw (add-one number) (h.ended ctx));
+    writes = λ ctx g. rw (out-InSeq number inside) (rw (add-one number) (h.writes ctx g));
+    rests = λ ctx place. rw (out-InSeq number inside) (rw (add-one number) (h.rests ctx number (suc number) place));
+    meets = rw (out-InSeq number inside) (rw (add-one number) h.meets);
+  }
+
+  resuming-sequence : (parts : List Stmt) → Starts scene other parts → Resumes scene other parts → AreDifferent (places_of_all parts)
+      → Resuming (sequence (map (behavior scene) parts)) (sequence (map (behavior other) parts)) (sequence_mirror (map mirror_of parts)) (places_of_all parts)
+  resuming-sequence parts starts h different = record {
+    still = λ control away. sequence_still scene other control parts starts h away;
+    resumes = λ control r fits at.
+        let one = in_seq_of (map (behavior scene) parts) r fits in
+        subst (λ q. ResumesAs (sequence (map (behavior scene) parts)) (sequence_mirror (map mirror_of parts)) control q) (sym one.2)
+        (sequence_resumes parts control one.0 one.1 (at_member control r fits at));
+    moves_none = λ control r fits at. (at_member control r fits at).moves_none;
+    fits = λ ctx r fits.
+        let one = in_seq_of (map (behavior scene) parts) r fits in
+        subst (λ q. CanRest (sequence (map (behavior other) parts)) ((sequence (map (behavior scene) parts)).after ctx q)) (sym one.2)
+        (rw (out-InSeq one.0 one.1) (rw (add-one one.0)
+        (member_fits ctx (map (behavior other) parts) one.1 parts starts h 0 one.0 one.0 (omega arith) refl one.3 one.4)));
+    within = λ r fits place e.
+        let one = in_seq_of (map (behavior scene) parts) r fits in
+        member_within scene other parts h one.0 one.1 one.3 one.4 place (ap (λ numbers. contains numbers place) (sym (places_are r one.0 one.1 one.2)) ∙ e);
+  }
+    where
+      places_are : (r : Residual) (number : ℕ) (inside : Residual) → r ≡ InSeq number inside → resting_places r ≡ resting_places inside
+      places_are r number inside is = ap resting_places is ∙ fold-InSeq (List ℕ) node_places number inside
+
+      at_member : (control : Control) (r : Residual) (fits : fits_in_one (map (behavior scene) parts) (out-Residual r) ≡ true)
+          → IsControl control (places_of_all parts) (resting_places r)
+          → Member scene other control parts (in_seq_of (map (behavior scene) parts) r fits).0 (in_seq_of (map (behavior scene) parts) r fits).1
+      at_member control r fits at =
+          let one = in_seq_of (map (behavior scene) parts) r fits in
+          member_resumes scene other control parts starts h different one.0 one.1 one.3 one.4
+          (subst (λ numbers. IsControl control (places_of_all parts) numbers) (places_are r one.0 one.1 one.2) at)
+
+  -- started it is as its bits say, and where its places are all different it is so resumed too
+  abbrev Walked : Stmt → Type 0
+  Walked s = Started scene other s × (AreDifferent (places_of s) → Resumed scene other s)
+
+  all_start : (parts : List Stmt) → AllByRecursion Walked parts → Starts scene other parts
+  all_start [] h = tt
+  all_start (s ∷ parts) h = (h.0.0, all_start parts h.1)
+
+  all_resume : (parts : List Stmt) → AllByRecursion Walked parts → AreDifferent (places_of_all parts) → Resumes scene other parts
+  all_resume [] h different = tt
+  all_resume (s ∷ parts) h different =
+      (h.0.1 (different_left (places_of s) (places_of_all parts) different), all_resume parts h.1 (different_right (places_of s) (places_of_all parts) different))
+
+  -- one node of the list of places
+  abbrev node_places_of : Stmt-F (List ℕ) → List ℕ
+  node_places_of node = own_places node ++ concat (parts_of node)
+
+  places-Loop : (number : ℕ) (body : Stmt) (condition : Expr) → places_of (stmt.Loop number body condition) ≡ places_of body
+  places-Loop number body condition = fold-Loop (List ℕ) node_places_of number body condition ∙ append-nil (places_of body)
+
+  walked-nothing : Walked stmt.Nothing
+  walked-nothing = (
+    carried (behavior-Nothing scene) (behavior-Nothing other) (fold-Nothing Mirror node_mirror) starting-idle,
+    λ different. resuming_carried (behavior-Nothing scene) (behavior-Nothing other) (fold-Nothing Mirror node_mirror)
+        (fold-Nothing (List ℕ) node_places_of) (resuming-idle (λ g. []) idle idle (λ r. refl)),
+  )
+
+  walked-emit : (n : ℕ) (value : Expr) → bit_of value ≡ true → Walked (stmt.Assign (var.Formal n) value)
+  walked-emit n value known = (
+    carried (behavior-Assign scene (var.Formal n) value) (behavior-Assign other (var.Formal n) value)
+        (fold-Assign Mirror node_mirror (var.Formal n) value) (starting-assignment scene other n value known),
+    λ different. resuming_carried (behavior-Assign scene (var.Formal n) value) (behavior-Assign other (var.Formal n) value)
+        (fold-Assign Mirror node_mirror (var.Formal n) value) (fold-Assign (List ℕ) node_places_of (var.Formal n) value)
+        (resuming-idle (λ g. driven (var.Formal n) value g) (assignment scene false (var.Formal n) value) (assignment other false (var.Formal n) value) (λ r. refl)),
+  )
+
+  walked-pause : (place : ℕ) → Walked (stmt.Pause place)
+  walked-pause place = (
+    carried (behavior-Pause scene place) (behavior-Pause other place) (fold-Pause Mirror node_mirror place) (starting-pause place),
+    λ different. resuming_carried (behavior-Pause scene place) (behavior-Pause other place) (fold-Pause Mirror node_mirror place)
+        (fold-Pause (List ℕ) node_places_of place) (resuming-pause place),
+  )
+
+  walked-sequence : (parts : List Stmt) → AllByRecursion Walked parts → Walked (stmt.Seq parts)
+  walked-sequence parts h = (
+    carried (behavior-Seq scene parts) (behavior-Seq other parts) (fold-Seq Mirror node_mirror parts) (starting-sequence scene other parts (all_start parts h)),
+    λ different.
+        let apart = subst AreDifferent (fold-Seq (List ℕ) node_places_of parts) different in
+        resuming_carried (behavior-Seq scene parts) (behavior-Seq other parts) (fold-Seq Mirror node_mirror parts) (fold-Seq (List ℕ) node_places_of parts)
+        (resuming-sequence parts (all_start parts h) (all_resume parts h apart) apart),
+  )
+
+  walked-loop : (number : ℕ) (body : Stmt) (condition : Expr) → bit_of condition ≡ true → Walked body → Walked (stmt.Loop number body condition)
+  walked-loop number body condition known h = (
+    carried (behavior-Loop scene number body condition) (behavior-Loop other number body condition) (fold-Loop Mirror node_mirror number body condition)
+        (starting-loop scene other number condition (behavior scene body) (behavior other body) (mirror_of body) h.0),
+    λ different.
+        resuming_carried (behavior-Loop scene number body condition) (behavior-Loop other number body condition)
+        (fold-Loop Mirror node_mirror number body condition) (places-Loop number body condition)
+        (resuming-loop scene other number condition known (behavior scene body) (behavior other body) (mirror_of body) (places_of body) h.0
+        (h.1 (subst AreDifferent (places-Loop number body condition) different))),
+  )
+
+  pub walked : (outputs : ℕ) (s : Stmt) → is_first outputs s ≡ true → Walked s
+  walked outputs = first_induction outputs Walked walked-nothing (λ n value inside known. walked-emit n value known) walked-pause walked-sequence walked-loop
+
+pub resumes_as_its_bits : (outputs : ℕ) (s : Stmt) → IsTrue (is_first outputs s) → AreDifferent (places_of s)
+    → (scene : Scene) (control : Control) (r : Residual) → IsTrue ((behavior scene s).fits r)
+    → IsControl control (places_of s) (resting_places r) → ResumesAs (behavior scene s) (mirror_of s) control r
+resumes_as_its_bits outputs s first different scene = ((walked scene scene outputs s first).1 different).resumes
+
+-- a scene by which nothing is known
+no_scene : Scene
+no_scene = record {
+  class_of = λ x. Event;
+  type_of = λ x. ty.Bool;
+  now = λ i. Unknown;
+  later = λ i. later.Absent;
+  call_ends_at_once = λ n m. Unknown;
+  call_ends = λ n. Unknown;
+}
+
+pub is_still_where_control_is_away : (outputs : ℕ) (s : Stmt) → IsTrue (is_first outputs s) → AreDifferent (places_of s)
+    → (control : Control) → IsControl control (places_of s) [] → IsStill (mirror_of s) control
+is_still_where_control_is_away outputs s first different = ((walked no_scene no_scene outputs s first).1 different).still
