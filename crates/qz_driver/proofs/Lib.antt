@@ -10,3 +10,4 @@ pub mod MirrorAgrees
 pub mod ResumeMirror
 pub mod ResumeSequences
 pub mod FirstResuming
+pub mod ClockRuns

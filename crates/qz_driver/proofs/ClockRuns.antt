@@ -1,0 +1,150 @@
+-- A circuit that implements a module runs as the module's bits, step by step.
+use Rattle.std.proofs.Common.{◌≡◌, ℕ, zero, suc, ◌+◌, ◌<◌, ◌≤◌, Bool, true, false, ◌||◌, ◌==◌, not, IsTrue, nat_lt, List, [], ◌∷◌, ◌++◌, map, length, Option, Some, None, slice_get, replicate, refl, sym, ap, subst, ◌∙◌, arith, eqb-true, inl, inr, ap₂, if◌then◌else◌}
+use Rattle.std.specs.List.{range_with_len, list_all}
+use mathlib.Core.Path.{fun_ext}
+use Rattle.std.proofs.lemmas.Bool.{false≢true, or_cases}
+use Rattle.qz_values.specs.declared.Ty.TheVariants as ty
+use Rattle.qz_values.specs.declared.Know.TheVariants.{Unknown}
+use Rattle.qz_syntax.specs.declared.declarations.Class.TheVariants.{Event}
+use Rattle.qz_syntax.specs.declared.places.Later.TheVariants as later
+use Rattle.qz_meaning.specs.Walks.{behavior}
+use Rattle.qz_values.specs.declared.Value.{Value}
+use Rattle.qz_values.specs.Values.{is_yes}
+use Rattle.qz_syntax.specs.declared.modules.Module.{Module}
+use Rattle.qz_syntax.specs.Numbers.{places_of}
+use Rattle.qz_syntax.proofs.NumberLemmas.{range-all_below}
+use Rattle.qz_meaning.specs.Scenes.{Scene, contains}
+use Rattle.qz_meaning.specs.Runs.{IsRun}
+use Rattle.qz_meaning.specs.Programs.{program_of}
+use Rattle.qz_driver.specs.declared.verilog.Ref.{Ref}
+use Rattle.qz_driver.specs.declared.verilog.VModule.{VModule}
+use Rattle.qz_driver.specs.Mirror.{Bits, Control, Mirror, mirror_of, is_driven}
+use Rattle.qz_driver.specs.FirstLanguage.{is_first, IsFirst}
+use Rattle.qz_driver.specs.FirstResumes.{AreDifferent, IsControl, IsStill}
+use Rattle.qz_driver.specs.BitRuns.{BitState, unstarted, driven_bits, moved_bits, bit_row, next_state, bit_rows, rows_of, RunsAs}
+use Rattle.qz_driver.specs.Clocks.{started_in, clock_bits, rest_bits, driven_row, TakesBits, Implements}
+use Rattle.qz_driver.specs.Verilog.{Nets, bit_at, Settles, Takes, IsClock, ClocksFrom, BeginsWith, IsVerilogRun}
+use Rattle.qz_driver.specs.Does.{DoesProgram, values_of}
+use Rattle.qz_driver.proofs.BitLemmas.{is_driven-append, or-false}
+use Rattle.qz_driver.proofs.StartMirror.{Starting, starting}
+use Rattle.qz_driver.proofs.PlaceLemmas.{range-different}
+use Rattle.qz_driver.proofs.FirstResuming.{is_still_where_control_is_away}
+use Rattle.qz_driver.proofs.MirrorAgrees.{SameAt, Agrees, mirror_agrees}
+
+-- each number of a range is below its end
+contains_below : (limit from len n : ℕ) → from + len ≡ limit → contains (range_with_len from len) n ≡ true → n < limit
+contains_below limit from zero n h e = absurd (false≢true e)
+contains_below limit from (suc len) n h e = elim (or_cases (from == n) (contains (range_with_len (from + 1) len) n) e) [
+  | inl is ↦ let same = eqb-true from n is in omega arith
+  | inr later ↦ contains_below limit (from + 1) len n (omega arith) later
+]
+
+-- a scene by which nothing is known
+no_scene : Scene
+no_scene = record {
+  class_of = λ x. Event;
+  type_of = λ x. ty.Bool;
+  now = λ i. Unknown;
+  later = λ i. later.Absent;
+  call_ends_at_once = λ n m. Unknown;
+  call_ends = λ n. Unknown;
+}
+
+module _ (m : Module) (first : IsFirst m) where
+  abbrev body_bits : Mirror
+  body_bits = mirror_of m.body
+
+  abbrev place_count : ℕ
+  place_count = length m.labels
+
+  started_bits : Starting (behavior no_scene m.body) (behavior no_scene m.body) body_bits
+  started_bits = starting no_scene no_scene (length m.formals) m.body first.body
+
+  -- the places of the body are those of its registers
+  within : (place : ℕ) → contains (places_of m.body) place ≡ true → place < place_count
+  within place here =
+      contains_below place_count 0 place_count place (omega arith) (ap (λ places. contains places place) (sym first.places) ∙ here)
+
+  different : AreDifferent (places_of m.body)
+  different = subst AreDifferent (sym first.places) (range-different 0 place_count)
+
+  -- where no register of a place is true, the body is still
+  still : (registers : Control) → ((place : ℕ) → place < place_count → registers place ≡ false) → IsStill body_bits registers
+  still registers none =
+      is_still_where_control_is_away (length m.formals) m.body first.body different registers (λ place here. none place (within place here))
+
+  -- registers and control that are the same at each place
+  same_bits : (registers control : Control) → ((place : ℕ) → place < place_count → registers place ≡ control place) → Agrees body_bits registers control
+  same_bits registers control same = mirror_agrees (length m.formals) m.body first.body registers control (λ place here. same place (within place here))
+
+  -- the registers stand for a state
+  record Stands (state : BitState) (registers : Control) : Type 0 where
+    started : started_in m registers ≡ state.started
+    same : (place : ℕ) → place < place_count → registers place ≡ state.control place
+    fresh : state.started ≡ false → (place : ℕ) → place < place_count → registers place ≡ false
+
+  drives_by : (started : Bool) (control registers : Control) → ((place : ℕ) → place < place_count → registers place ≡ control place)
+      → (started ≡ false → (place : ℕ) → place < place_count → registers place ≡ false) → (output : ℕ)
+      → is_driven (body_bits.start (not started) ++ body_bits.resume registers true) output
+      ≡ is_driven (if started then body_bits.resume control true else body_bits.start true) output
+  drives_by true control registers same fresh output =
+      is_driven-append (body_bits.start false) (body_bits.resume registers true) output
+      ∙ ap (λ b. b || is_driven (body_bits.resume registers true) output) (started_bits.undriven output)
+      ∙ ap (λ bits. is_driven bits output) ((same_bits registers control same).resume true)
+  drives_by false control registers same fresh output =
+      is_driven-append (body_bits.start true) (body_bits.resume registers true) output
+      ∙ ap (λ b. is_driven (body_bits.start true) output || b) ((still registers (fresh refl)).undriven true output)
+      ∙ or-false (is_driven (body_bits.start true) output)
+
+  moves_by : (started : Bool) (control registers : Control) → ((place : ℕ) → place < place_count → registers place ≡ control place)
+      → (started ≡ false → (place : ℕ) → place < place_count → registers place ≡ false) → (place : ℕ)
+      → is_driven (body_bits.enter (not started) ++ body_bits.move registers) place
+      ≡ is_driven (if started then body_bits.move control else body_bits.enter true) place
+  moves_by true control registers same fresh place =
+      is_driven-append (body_bits.enter false) (body_bits.move registers) place
+      ∙ ap (λ b. b || is_driven (body_bits.move registers) place) (started_bits.unentered place)
+      ∙ ap (λ bits. is_driven bits place) (same_bits registers control same).move
+  moves_by false control registers same fresh place =
+      is_driven-append (body_bits.enter true) (body_bits.move registers) place
+      ∙ ap (λ b. is_driven (body_bits.enter true) place || b) ((still registers (fresh refl)).unmoved place)
+      ∙ or-false (is_driven (body_bits.enter true) place)
+
+  -- a clock's outputs are the state's row
+  row_of : (state : BitState) (registers : Control) → Stands state registers → driven_row m registers ≡ bit_row (length m.formals) body_bits state
+  row_of state registers stands =
+      ap (λ (f : ℕ → Bool). map f (range_with_len 0 (length m.formals))) (fun_ext (λ output.
+          ap (λ b. is_driven (body_bits.start (not b) ++ body_bits.resume registers true) output) stands.started
+          ∙ drives_by state.started state.control registers stands.same stands.fresh output))
+
+  -- what the registers take stands for the next state
+  next_stands : (state : BitState) (registers next : Control) → Stands state registers → TakesBits m registers next
+      → Stands (next_state body_bits state) next
+  next_stands state registers next stands takes = record {
+    started = takes.started;
+    same = λ place below.
+      takes.places place below
+      ∙ (ap (λ b. is_driven (body_bits.enter (not b) ++ body_bits.move registers) place) stands.started
+      ∙ moves_by state.started state.control registers stands.same stands.fresh place);
+    fresh = λ e place below. absurd (false≢true (sym e));
+  }
+
+  module _ (v : VModule) (implements : Implements v m) where
+    rows_from : (rows : List (List Bool)) (state : BitState) (registers : Control) → Stands state registers → ClocksFrom v registers rows
+        → rows ≡ bit_rows (length m.formals) body_bits state (length rows)
+    rows_from [] state registers stands clocks = refl
+    rows_from (row ∷ rows) state registers stands clocks =
+        let next = clocks.0 in
+        let clock = clocks.1 in
+        let here = implements.outs registers row next clock ∙ row_of state registers stands in
+        let later = rows_from rows (next_state body_bits state) next
+            (next_stands state registers next stands (implements.takes registers row next clock)) clocks.2 in
+        ap₂ (λ r rs. r ∷ rs) here later
+
+    -- the rows of a run of the circuit are those of the body
+    pub rows_of_run : (rows : List (List Bool)) → IsVerilogRun v rows → rows ≡ rows_of m (length rows)
+    rows_of_run rows run =
+        rows_from rows unstarted run.0 (record {
+          started = implements.begins run.0 run.1 place_count (omega arith);
+          same = λ place below. implements.begins run.0 run.1 place (omega arith);
+          fresh = λ e place below. implements.begins run.0 run.1 place (omega arith);
+        }) run.2
