@@ -11,3 +11,4 @@ pub mod ResumeMirror
 pub mod ResumeSequences
 pub mod FirstResuming
 pub mod ClockRuns
+pub mod SettledWires
