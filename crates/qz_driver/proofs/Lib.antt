@@ -5,3 +5,6 @@ pub mod StartMirror
 pub mod ResumeMirror
 pub mod ResumeSequences
 pub mod FirstResuming
+pub mod BitVerdicts
+pub mod FirstSteps
+pub mod FirstRuns

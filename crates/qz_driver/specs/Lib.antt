@@ -8,5 +8,6 @@ pub mod Mirror
 pub mod FirstLanguage
 pub mod FirstWalk
 pub mod FirstResumes
+pub mod BitRuns
 pub mod Verilog
 pub mod Does
