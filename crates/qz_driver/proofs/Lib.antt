@@ -12,3 +12,6 @@ pub mod ResumeSequences
 pub mod FirstResuming
 pub mod ClockRuns
 pub mod SettledWires
+pub mod BitVerdicts
+pub mod FirstSteps
+pub mod FirstRuns

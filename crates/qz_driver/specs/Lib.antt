@@ -8,6 +8,7 @@ pub mod Mirror
 pub mod FirstLanguage
 pub mod FirstWalk
 pub mod FirstResumes
+pub mod BitRuns
 pub mod Verilog
 pub mod Does
 pub mod VerilogText

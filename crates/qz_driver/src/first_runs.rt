@@ -3,14 +3,16 @@
 ghost use Rattle.std.specs.Prelude.{ℕ, IsTrue, []};
 ghost use Rattle.qz_syntax.specs.declared.statements.Stmt.{Stmt};
 ghost use Rattle.qz_syntax.specs.declared.places.Residual.{Residual};
+ghost use Rattle.qz_syntax.specs.declared.modules.Module.{Module};
 ghost use Rattle.qz_syntax.specs.Numbers.{places_of};
 ghost use Rattle.qz_meaning.specs.Scenes.{Scene};
 ghost use Rattle.qz_meaning.specs.Walks.{behavior};
 ghost use Rattle.qz_meaning.specs.Valuations.{resting_places};
 ghost use Rattle.qz_driver.specs.Mirror.{Control, mirror_of};
-ghost use Rattle.qz_driver.specs.FirstLanguage.{is_first};
+ghost use Rattle.qz_driver.specs.FirstLanguage.{is_first, IsFirst};
 ghost use Rattle.qz_driver.specs.FirstWalk.{StartsAs};
 ghost use Rattle.qz_driver.specs.FirstResumes.{AreDifferent, IsControl, ResumesAs, IsStill};
+ghost use Rattle.qz_driver.specs.BitRuns.{RunsAs};
 
 /// A start of a statement of the first language is as its bits say.
 pub fn starts_as_its_bits()
@@ -29,4 +31,10 @@ pub fn resumes_as_its_bits()
 pub fn is_still_where_control_is_away()
     ensures { (outputs : ℕ) (s : Stmt) → IsTrue (is_first outputs s) → AreDifferent (places_of s)
         → (control : Control) → IsControl control (places_of s) [] → IsStill (mirror_of s) control }
+{}
+
+/// For every number of steps a program of the first language has a run with the rows of its bits, and no
+/// run with others.
+pub fn runs_as_its_bits()
+    ensures { (m : Module) → IsFirst m → RunsAs m }
 {}

@@ -1,0 +1,315 @@
+-- The macro steps of a program of the first language are those of its bits.
+use Rattle.std.proofs.Common.{◌≡◌, ℕ, zero, suc, ◌+◌, Bool, true, false, List, [], ◌∷◌, ◌++◌, map, length, slice_get, Option, Some, None, refl, sym, ap, ap₂, subst, ◌∙◌, append-nil, if◌then◌else◌}
+use Rattle.std.specs.Option.{option_map_or}
+use Rattle.std.specs.List.{AllByRecursion, list_all, range_with_len}
+use Rattle.std.proofs.lemmas.Bool.{and_parts, false≢true}
+use Rattle.std.proofs.lemmas.Simd.{map-map}
+use mathlib.Core.Path.{fun_ext}
+use Rattle.qz_values.specs.declared.Ty.{Ty}
+use Rattle.qz_values.specs.declared.Ty.TheVariants as ty
+use Rattle.qz_values.specs.declared.Value.{Value}
+use Rattle.qz_values.specs.declared.Know.TheVariants.{Known}
+use Rattle.qz_values.specs.Types.{is_bool}
+use Rattle.qz_values.specs.Values.{truth_of}
+use Rattle.qz_syntax.specs.declared.declarations.Class.{Class}
+use Rattle.qz_syntax.specs.declared.declarations.Class.TheVariants.{Event, Mem}
+use Rattle.qz_syntax.specs.declared.declarations.Dir.{Dir}
+use Rattle.qz_syntax.specs.declared.declarations.Dir.TheVariants as dir
+use Rattle.qz_syntax.specs.declared.declarations.Formal.{Formal}
+use Rattle.qz_syntax.specs.declared.expressions.Var.{Var}
+use Rattle.qz_syntax.specs.declared.expressions.Var.TheVariants as var
+use Rattle.qz_syntax.specs.declared.modules.Module.{Module}
+use Rattle.qz_syntax.specs.declared.places.Later.TheVariants as later
+use Rattle.qz_syntax.specs.declared.places.Mark.TheVariants as mark
+use Rattle.qz_syntax.specs.declared.places.Place.{Place}
+use Rattle.qz_syntax.specs.declared.places.Place.TheVariants as place
+use Rattle.qz_syntax.specs.declared.places.Residual.{Residual}
+use Rattle.qz_syntax.specs.declared.places.Store.{Store}
+use Rattle.qz_meaning.specs.Instances.{formal_instance}
+use Rattle.qz_meaning.specs.Scenes.{Scene, root, contains, new_store, store_from}
+use Rattle.qz_meaning.specs.Behaviors.{Met}
+use Rattle.qz_meaning.specs.Walks.{behavior}
+use Rattle.qz_meaning.specs.Valuations.{resting_places}
+use Rattle.qz_meaning.specs.Programs.{Program, numbers_in, formals_of, program_of}
+use Rattle.qz_meaning.specs.Settling.{Configuration, Environment, scene_of, writes_at, step_writes, met_at, met_outputs, step_met, settled, settles_now, settles_later, settled_later}
+use Rattle.qz_meaning.specs.Rounds.{IsPlainAt}
+use Rattle.qz_meaning.specs.MacroSteps.{initial, IsSettledAt, rest_or_end, next_place, next_configuration, IsStep}
+use Rattle.qz_meaning.specs.Verdicts.{verdict}
+use Rattle.qz_driver.specs.Mirror.{Bits, Mirror, mirror_of, is_driven}
+use Rattle.qz_driver.specs.FirstLanguage.{is_event_output, IsFirst}
+use Rattle.qz_driver.specs.FirstWalk.{places_at, CanRest}
+use Rattle.qz_driver.specs.FirstResumes.{AreWritesOf, ResumesAs, IsStill, AreDifferent}
+use Rattle.qz_driver.specs.BitRuns.{BitState, unstarted, driven_bits, bit_row, next_state}
+use Rattle.qz_driver.proofs.PlaceLemmas.{range-different}
+use Rattle.qz_driver.proofs.StartMirror.{Started}
+use Rattle.qz_driver.proofs.ResumeSequences.{Resumed}
+use Rattle.qz_driver.proofs.FirstResuming.{walked}
+use Rattle.qz_driver.proofs.BitVerdicts.{verdict_driven, verdict_undelayed, settled_driven}
+
+all_from : {A : Type 0} (P : A → Type 0) → ((x : A) → P x) → (xs : List A) → AllByRecursion P xs
+all_from P h [] = tt
+all_from P h (x ∷ xs) = (h x, all_from P h xs)
+
+all-map : {A B : Type 0} (P : B → Type 0) (f : A → B) (xs : List A) → AllByRecursion (λ x. P (f x)) xs → AllByRecursion P (map f xs)
+all-map P f [] h = tt
+all-map P f (x ∷ xs) h = (h.0, all-map P f xs h.1)
+
+all_of-map : {A B : Type 0} (P : B → Type 0) (f : A → B) (xs : List A) → AllByRecursion P (map f xs) → AllByRecursion (λ x. P (f x)) xs
+all_of-map P f [] h = tt
+all_of-map P f (x ∷ xs) h = (h.0, all_of-map P f xs h.1)
+
+all_so : {A : Type 0} (P Q : A → Type 0) → ((x : A) → P x → Q x) → (xs : List A) → AllByRecursion P xs → AllByRecursion Q xs
+all_so P Q h [] k = tt
+all_so P Q h (x ∷ xs) k = (h x k.0, all_so P Q h xs k.1)
+
+map_same : {A B : Type 0} (f g : A → B) (xs : List A) → AllByRecursion (λ x. f x ≡ g x) xs → map f xs ≡ map g xs
+map_same f g [] h = refl
+map_same f g (x ∷ xs) h = ap₂ (λ y ys. y ∷ ys) h.0 (map_same f g xs h.1)
+
+-- known values are told by what is known
+pub known_same : (vs ws : List Value) → map (λ v. Known v) vs ≡ map (λ w. Known w) ws → vs ≡ ws
+known_same [] [] h = refl
+known_same [] (w ∷ ws) h = absurd (cc)
+known_same (v ∷ vs) [] h = absurd (cc)
+known_same (v ∷ vs) (w ∷ ws) h =
+    let one : v ≡ w = cc in
+    let others : map (λ x. Known x) vs ≡ map (λ x. Known x) ws = cc in
+    ap₂ (λ (x : Value) (xs : List Value). x ∷ xs) one (known_same vs ws others)
+
+-- the parts of an output of the first language
+output_parts : (formal : Formal) → is_event_output formal ≡ true → (formal.class ≡ Event) × (formal.dir ≡ dir.Out) × (formal.ty ≡ ty.Bool)
+output_parts formal h = by_parts formal.class formal.dir formal.ty h
+  where
+    by_parts : (c : Class) (d : Dir) (t : Ty) → (elim c [ Event ↦ elim d [ dir.Out ↦ is_bool t | dir.In ↦ false ] | Mem ↦ false ]) ≡ true
+        → (c ≡ Event) × (d ≡ dir.Out) × (t ≡ ty.Bool)
+    by_parts Event dir.Out ty.Bool e = (refl, refl, refl)
+    by_parts Event dir.Out (ty.Bv width) e = absurd (false≢true e)
+    by_parts Event dir.In t e = absurd (false≢true e)
+    by_parts Mem d t e = absurd (false≢true e)
+
+abbrev AreOutputs : List Formal → Type 0
+AreOutputs formals = list_all (λ (formal : Formal). is_event_output formal) formals ≡ true
+
+outputs_of : (formals : List Formal) → AreOutputs formals → (n : ℕ) → numbers_in dir.Out n formals ≡ range_with_len n (length formals)
+outputs_of [] h n = refl
+outputs_of (formal ∷ formals) h n =
+    let parts = and_parts _ _ h in
+    rw ((output_parts formal parts.0).1) (ap (λ ns. n ∷ ns) (outputs_of formals parts.1 (n + 1)))
+
+inputs_of : (formals : List Formal) → AreOutputs formals → (n : ℕ) → numbers_in dir.In n formals ≡ []
+inputs_of [] h n = refl
+inputs_of (formal ∷ formals) h n =
+    let parts = and_parts _ _ h in rw ((output_parts formal parts.0).1) (inputs_of formals parts.1 (n + 1))
+
+class_of_output : (formals : List Formal) → AreOutputs formals → (n : ℕ)
+    → option_map_or (λ (formal : Formal). formal.class) (slice_get formals n) Event ≡ Event
+class_of_output [] h n = refl
+class_of_output (formal ∷ formals) h zero = (output_parts formal (and_parts _ _ h).0).0
+class_of_output (formal ∷ formals) h (suc n) = class_of_output formals (and_parts _ _ h).1 n
+
+type_of_output : (formals : List Formal) → AreOutputs formals → (n : ℕ)
+    → option_map_or (λ (formal : Formal). formal.ty) (slice_get formals n) ty.Bool ≡ ty.Bool
+type_of_output [] h n = refl
+type_of_output (formal ∷ formals) h zero = (output_parts formal (and_parts _ _ h).0).2
+type_of_output (formal ∷ formals) h (suc n) = type_of_output formals (and_parts _ _ h).1 n
+
+-- an output with a store that has just come into being
+abbrev output_met : ℕ → Met
+output_met n = record { instance = formal_instance n; store = new_store ty.Bool }
+
+abbrev new_stores : List ℕ → List Store
+new_stores outputs = map (λ n. new_store ty.Bool) outputs
+
+met_outputs_new : (outputs : List ℕ) → met_outputs outputs (new_stores outputs) ≡ map output_met outputs
+met_outputs_new [] = refl
+met_outputs_new (n ∷ outputs) = ap (λ mets. output_met n ∷ mets) (met_outputs_new outputs)
+
+-- the values by which bits drive
+abbrev drives : Bits → Var → Bool
+drives bits (var.Formal n) = is_driven bits n
+drives bits (var.Local n) = false
+drives bits (var.Bound n) = false
+
+abbrev values_by : Bits → Environment
+values_by bits = record { now = λ i. Known (truth_of (drives bits i.variable)); later = λ i. later.Absent }
+
+module _ (m : Module) (first : IsFirst m) where
+  abbrev program : Program
+  program = program_of m
+
+  abbrev bits : Mirror
+  bits = mirror_of m.body
+
+  abbrev count : ℕ
+  count = length m.formals
+
+  abbrev outputs : List ℕ
+  outputs = formals_of dir.Out m
+
+  class_is : (n : ℕ) → program.class_of (var.Formal n) ≡ Event
+  class_is n = class_of_output m.formals first.formals n
+
+  type_is : (n : ℕ) → program.type_of (var.Formal n) ≡ ty.Bool
+  type_is n = type_of_output m.formals first.formals n
+
+  started : (scene other : Scene) → Started scene other m.body
+  started scene other = (walked scene other count m.body first.body).0
+
+  resumed : (scene other : Scene) → Resumed scene other m.body
+  resumed scene other = (walked scene other count m.body first.body).1 (subst AreDifferent (sym first.places) (range-different 0 (length m.labels)))
+
+  -- control is where the state says
+  abbrev pub IsPlace : Place → BitState → Type 0
+  IsPlace place.NotStarted state = state.started ≡ false
+  IsPlace (place.Rest r) state =
+      (state.started ≡ true) × ((scene : Scene) → (behavior scene m.body).fits r ≡ true) × ((k : ℕ) → state.control k ≡ contains (resting_places r) k)
+  IsPlace place.Ended state = (state.started ≡ true) × ((k : ℕ) → state.control k ≡ false)
+
+  -- the configuration is the state's, and nothing is delayed
+  pub record Follows (c : Configuration) (state : BitState) : Type 0 where
+    pub outputs_are : c.outputs ≡ new_stores outputs
+    pub place_is : IsPlace c.place state
+
+  place_after : (inside : Option Residual) (state : BitState) → state.started ≡ true → ((scene : Scene) → CanRest (behavior scene m.body) inside)
+      → ((k : ℕ) → contains (places_at inside) k ≡ state.control k) → IsPlace (rest_or_end inside) state
+  place_after None state h fits at = (h, λ k. sym (at k))
+  place_after (Some r) state h fits at = (h, fits, λ k. sym (at k))
+
+  -- the walk from a place is as the state's bits say
+  record WalksAs (scene : Scene) (from : Place) (state : BitState) : Type 0 where
+    writes : AreWritesOf (writes_at (behavior scene m.body) from) (driven_bits bits state)
+    met : met_at (behavior scene m.body) from ≡ []
+    next : IsPlace (next_place (behavior scene m.body) from) (next_state bits state)
+
+  walks_as : (scene : Scene) (from : Place) (state : BitState) → IsPlace from state → WalksAs scene from state
+  walks_as scene place.NotStarted state h = record {
+    writes = subst (λ some. AreWritesOf ((behavior scene m.body).start root (Known (truth_of true)) mark.Zero) some)
+        (sym (ap (λ b. if b then bits.resume state.control true else bits.start true) h))
+        (record { same = bits.start true; are = (started scene scene).starts.writes root true mark.Zero; drive = λ output. refl });
+    met = (started scene scene).starts.meets mark.Zero;
+    next = place_after ((behavior scene m.body).rest root mark.Zero) (next_state bits state) refl (λ other. (started scene other).fits root mark.Zero)
+        (λ k. (started scene scene).starts.rests root mark.Zero k
+        ∙ ap (λ some. is_driven some k) (sym (ap (λ b. if b then bits.move state.control else bits.enter true) h)));
+  }
+  walks_as scene (place.Rest r) state h =
+      let here : ResumesAs (behavior scene m.body) bits state.control r =
+      (resumed scene scene).resumes state.control r (h.1 scene) (λ k inside. h.2 k) in
+      record {
+        writes = subst (λ some. AreWritesOf ((behavior scene m.body).resume root r (Known (truth_of true))) some)
+            (sym (ap (λ b. if b then bits.resume state.control true else bits.start true) h.0)) (here.writes root true);
+        met = here.meets;
+        next = place_after ((behavior scene m.body).after root r) (next_state bits state) refl (λ other. (resumed scene other).fits root r (h.1 scene))
+            (λ k. here.rests root k ∙ ap (λ some. is_driven some k) (sym (ap (λ b. if b then bits.move state.control else bits.enter true) h.0)));
+      }
+  walks_as scene place.Ended state h =
+      let still : IsStill bits state.control = (resumed scene scene).still state.control (λ k inside. h.1 k) in
+      record {
+        writes = record {
+          same = [];
+          are = refl;
+          drive = λ output. sym (
+              ap (λ some. is_driven some output) (ap (λ b. if b then bits.resume state.control true else bits.start true) h.0)
+              ∙ still.undriven true output
+              );
+        };
+        met = refl;
+        next = (refl, λ k. ap (λ some. is_driven some k) (ap (λ b. if b then bits.move state.control else bits.enter true) h.0) ∙ still.unmoved k);
+      }
+
+  pub follows-initial : Follows (initial program) unstarted
+  follows-initial = record {
+    outputs_are = ap (λ (f : ℕ → Store). map f outputs) (fun_ext (λ n. ap new_store (type_is n)));
+    place_is = refl;
+  }
+
+  met_is : (c : Configuration) (state : BitState) → Follows c state → (env : Environment) → step_met program c env ≡ map output_met outputs
+  met_is c state h env =
+      ap₂ (λ xs ys. xs ++ ys) (ap (met_outputs outputs) h.outputs_are ∙ met_outputs_new outputs)
+      (walks_as (scene_of program env) c.place state h.place_is).met
+      ∙ append-nil (map output_met outputs)
+
+  settles : (c : Configuration) (state : BitState) → Follows c state → (env : Environment) (n : ℕ)
+      → settles_now program (step_writes program c env) (output_met n) ≡ Known (truth_of (is_driven (driven_bits bits state) n))
+  settles c state h env n =
+      ap₂ (λ (class : Class) (type : Ty). settled class type (new_store ty.Bool) (verdict (formal_instance n) false (step_writes program c env))) (class_is n) (type_is n)
+      ∙ ap (λ v. settled Event ty.Bool (new_store ty.Bool) v)
+      (verdict_driven (step_writes program c env) (driven_bits bits state) (walks_as (scene_of program env) c.place state h.place_is).writes n)
+      ∙ settled_driven (is_driven (driven_bits bits state) n)
+
+  undelayed : (c : Configuration) (state : BitState) → Follows c state → (env : Environment) (n : ℕ)
+      → settles_later (step_writes program c env) (output_met n) ≡ later.Absent
+  undelayed c state h env n =
+      ap settled_later (verdict_undelayed (step_writes program c env) (driven_bits bits state) (walks_as (scene_of program env) c.place state h.place_is).writes n)
+
+  -- the values of the step's row
+  row_values : (state : BitState)
+      → map (λ n. Known (truth_of (is_driven (driven_bits bits state) n))) outputs ≡ map (λ v. Known v) (map truth_of (bit_row count bits state))
+  row_values state =
+      ap (λ ns. map (λ n. Known (truth_of (is_driven (driven_bits bits state) n))) ns) (outputs_of m.formals first.formals 0)
+      ∙ sym (
+      map-map (λ (v : Value). Known v) truth_of (bit_row count bits state)
+      ∙ map-map (λ (b : Bool). Known (truth_of b)) (λ output. is_driven (driven_bits bits state) output) (range_with_len 0 count)
+      )
+
+  new_store_from : (env : Environment) (n : ℕ) → env.later (formal_instance n) ≡ later.Absent
+      → store_from (scene_of program env) (formal_instance n) ≡ new_store ty.Bool
+  new_store_from env n h = rw (h, class_is n, type_is n) refl
+
+  follows_next : (c : Configuration) (state : BitState) → Follows c state → (env : Environment)
+      → AllByRecursion (λ n. env.later (formal_instance n) ≡ later.Absent) outputs
+      → Follows (next_configuration program c env) (next_state bits state)
+  follows_next c state h env absent = record {
+    outputs_are = map_same (λ n. store_from (scene_of program env) (formal_instance n)) (λ n. new_store ty.Bool) outputs
+        (all_so (λ n. env.later (formal_instance n) ≡ later.Absent) (λ n. store_from (scene_of program env) (formal_instance n) ≡ new_store ty.Bool)
+        (new_store_from env) outputs absent);
+    place_is = (walks_as (scene_of program env) c.place state h.place_is).next;
+  }
+
+  -- there is a step, with the row of the bits
+  pub step_there : (c : Configuration) (state : BitState) → Follows c state
+      → IsStep program c [] (map truth_of (bit_row count bits state)) (next_configuration program c (values_by (driven_bits bits state)))
+  step_there c state h = record {
+    values = env;
+    solution = record {
+      inputs = ap (λ ns. map (λ n. env.now (formal_instance n)) ns) (inputs_of m.formals first.formals 0);
+      plain = subst (λ mets. AllByRecursion (IsPlainAt env) mets) (sym (met_is c state h env))
+          (all-map (IsPlainAt env) output_met outputs (all_from (λ n. IsPlainAt env (output_met n)) (λ n. record { now = tt; later = tt }) outputs));
+      settled = subst (λ mets. AllByRecursion (IsSettledAt program (step_writes program c env) env) mets) (sym (met_is c state h env))
+          (all-map (IsSettledAt program (step_writes program c env) env) output_met outputs
+          (all_from (λ n. IsSettledAt program (step_writes program c env) env (output_met n))
+          (λ n. record { now = sym (settles c state h env n); later = sym (undelayed c state h env n) }) outputs));
+    };
+    outputs_are = row_values state;
+    next_is = refl;
+  }
+    where
+      env : Environment
+      env = values_by (driven_bits bits state)
+
+  pub follows_there : (c : Configuration) (state : BitState) → Follows c state
+      → Follows (next_configuration program c (values_by (driven_bits bits state))) (next_state bits state)
+  follows_there c state h =
+      follows_next c state h (values_by (driven_bits bits state)) (all_from (λ n. (values_by (driven_bits bits state)).later (formal_instance n) ≡ later.Absent) (λ n. refl) outputs)
+
+  settled_at : (c : Configuration) (state : BitState) → Follows c state → (out : List Value) (next : Configuration) (s : IsStep program c [] out next)
+      → AllByRecursion (λ n. IsSettledAt program (step_writes program c s.values) s.values (output_met n)) outputs
+  settled_at c state h out next s =
+      all_of-map (IsSettledAt program (step_writes program c s.values) s.values) output_met outputs
+      (subst (λ mets. AllByRecursion (IsSettledAt program (step_writes program c s.values) s.values) mets) (met_is c state h s.values) s.solution.settled)
+
+  -- and every step has it
+  pub step_only : (c : Configuration) (state : BitState) → Follows c state → (out : List Value) (next : Configuration) → IsStep program c [] out next
+      → (out ≡ map truth_of (bit_row count bits state)) × Follows next (next_state bits state)
+  step_only c state h out next s = (
+    known_same out (map truth_of (bit_row count bits state)) (
+        sym s.outputs_are
+        ∙ map_same (λ n. s.values.now (formal_instance n)) (λ n. Known (truth_of (is_driven (driven_bits bits state) n))) outputs
+        (all_so (λ n. IsSettledAt program (step_writes program c s.values) s.values (output_met n))
+        (λ n. s.values.now (formal_instance n) ≡ Known (truth_of (is_driven (driven_bits bits state) n)))
+        (λ n k. k.now ∙ settles c state h s.values n) outputs (settled_at c state h out next s))
+        ∙ row_values state
+        ),
+    subst (λ d. Follows d (next_state bits state)) (sym s.next_is) (follows_next c state h s.values
+        (all_so (λ n. IsSettledAt program (step_writes program c s.values) s.values (output_met n)) (λ n. s.values.later (formal_instance n) ≡ later.Absent)
+        (λ n k. k.later ∙ undelayed c state h s.values n) outputs (settled_at c state h out next s))),
+  )
