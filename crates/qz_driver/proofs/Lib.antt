@@ -1,3 +1,4 @@
 pub mod WireLemmas
 pub mod Growing
 pub mod Walks
+pub mod Driving
