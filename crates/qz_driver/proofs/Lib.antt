@@ -15,3 +15,4 @@ pub mod SettledWires
 pub mod BitVerdicts
 pub mod FirstSteps
 pub mod FirstRuns
+pub mod Driving

@@ -1,5 +1,5 @@
 -- One more member of a sequence, in the functions of the mirror over a list.
-use Rattle.std.proofs.Common.{◌≡◌, ℕ, ◌+◌, ◌<◌, Bool, ◌&&◌, List, ◌∷◌, ◌++◌, map, length, drop, get_or, ap, sym, ◌∙◌, append_assoc}
+use Rattle.std.proofs.Common.{◌≡◌, ℕ, ◌+◌, ◌<◌, Bool, ◌&&◌, List, [], ◌∷◌, ◌++◌, map, length, drop, get_or, ap, sym, ◌∙◌, append_assoc}
 use Rattle.std.proofs.lemmas.List.{at_drop_more}
 use Rattle.std.proofs.Math.Bool.{and_assoc}
 use Rattle.qz_syntax.specs.declared.statements.Stmt.{Stmt}
@@ -9,6 +9,10 @@ use Rattle.qz_driver.specs.Mirror.{Bits, Control, mirror_of, all_at_once, start_
 pub appended_twice : (before mid after first second : Bits) → mid ≡ before ++ first → after ≡ mid ++ second → after ≡ before ++ (first ++ second)
 appended_twice before mid after first second mid_is after_is =
     after_is ∙ ap (λ bits. bits ++ second) mid_is ∙ append_assoc before first second
+
+-- what is appended to nothing
+pub appended_to_none : (none mid after first second : Bits) → none ≡ [] → mid ≡ none ++ first → after ≡ mid ++ second → after ≡ first ++ second
+appended_to_none none mid after first second is mid_is after_is = after_is ∙ ap (λ bits. bits ++ second) (mid_is ∙ ap (λ bits. bits ++ first) is)
 
 pub appended_again : (before mid after first : Bits) (second : Bool → Bits) (a b : Bool) → mid ≡ before ++ first → after ≡ mid ++ second a → a ≡ b
     → after ≡ before ++ (first ++ second b)
