@@ -1,0 +1,4 @@
+mod ReadingLemmas
+mod GrammarLemmas
+mod FormalLemmas
+mod SourceLemmas
