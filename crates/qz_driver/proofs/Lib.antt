@@ -16,3 +16,7 @@ pub mod BitVerdicts
 pub mod FirstSteps
 pub mod FirstRuns
 pub mod Driving
+mod ReadingLemmas
+mod GrammarLemmas
+mod FormalLemmas
+mod SourceLemmas

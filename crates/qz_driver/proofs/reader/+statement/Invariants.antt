@@ -1,4 +1,6 @@
-use Rattle.std.proofs.Common.{◌≡◌, ◌+◌, ◌-◌, ◌*◌, ◌≤◌, length}
+use Rattle.std.proofs.Common.{◌+◌, ◌-◌, ◌*◌, length}
+use Rattle.qz_driver.specs.Reading.{upcoming}
+use Rattle.qz_driver.proofs.ReadingLemmas.{BlockSoFar}
 use Rattle.qz_driver.proofs.reader.+statement.Given as goal
 
 -- a statement calls those of one level more, of which there are at most 129, and a block its own
@@ -9,8 +11,7 @@ abbrev pub decreases-statements : goal.decreases-statements
 decreases-statements l = 2 * (130 - l.level) + 1
 
 abbrev pub invariant-statements-loop-alloc : goal.invariant-statements-loop-alloc
-invariant-statements-loop-alloc l =
-    (length l.cursor.tokens.now ≡ length l.initial.cursor.tokens.now) × (l.initial.cursor.read ≤ l.cursor.read)
+invariant-statements-loop-alloc l = BlockSoFar l.level (upcoming l.initial.cursor) l.parts (upcoming l.cursor)
 
 abbrev pub decreases-statements-loop-alloc : goal.decreases-statements-loop-alloc
-decreases-statements-loop-alloc l = length l.cursor.tokens.now - l.cursor.read
+decreases-statements-loop-alloc l = length (upcoming l.cursor)

@@ -1,8 +1,10 @@
-use Rattle.std.proofs.Common.{◌≡◌, ◌-◌, length}
+use Rattle.std.proofs.Common.{length}
+use Rattle.qz_driver.specs.Reading.{upcoming}
+use Rattle.qz_driver.proofs.FormalLemmas.{FormalsSoFar}
 use Rattle.qz_driver.proofs.reader.formals.Given as goal
 
-abbrev pub invariant-loop-formals : goal.invariant-loop-formals
-invariant-loop-formals l = length l.cursor.tokens.now ≡ length l.initial.cursor.tokens.now
+abbrev pub invariant-loop-alloc : goal.invariant-loop-alloc
+invariant-loop-alloc l = FormalsSoFar (upcoming l.fn.cursor) l.formals (upcoming l.cursor)
 
-abbrev pub decreases-loop-formals : goal.decreases-loop-formals
-decreases-loop-formals l = length l.cursor.tokens.now - l.cursor.read
+abbrev pub decreases-loop-alloc : goal.decreases-loop-alloc
+decreases-loop-alloc l = length (upcoming l.cursor)
