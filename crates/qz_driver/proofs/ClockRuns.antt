@@ -23,7 +23,8 @@ use Rattle.qz_driver.specs.FirstLanguage.{is_first, IsFirst}
 use Rattle.qz_driver.specs.FirstResumes.{AreDifferent, IsControl, IsStill}
 use Rattle.qz_driver.specs.BitRuns.{BitState, unstarted, driven_bits, moved_bits, bit_row, next_state, bit_rows, rows_of, RunsAs}
 use Rattle.qz_driver.specs.Clocks.{started_in, clock_bits, rest_bits, driven_row, TakesBits, Implements}
-use Rattle.qz_driver.specs.Verilog.{Nets, bit_at, Settles, Takes, IsClock, ClocksFrom, BeginsWith, IsVerilogRun}
+use Rattle.qz_driver.specs.Verilog.{Nets, bit_at, Settles, Takes, IsClock, ClocksFrom, BeginsWith, IsVerilogRun, IsValid}
+use Rattle.qz_driver.proofs.SettledWires.{with_wires, settled_after, settles}
 use Rattle.qz_driver.specs.Does.{DoesProgram, values_of}
 use Rattle.qz_driver.proofs.BitLemmas.{is_driven-append, or-false}
 use Rattle.qz_driver.proofs.StartMirror.{Starting, starting}
@@ -148,3 +149,54 @@ module _ (m : Module) (first : IsFirst m) where
           same = λ place below. implements.begins run.0 run.1 place (omega arith);
           fresh = λ e place below. implements.begins run.0 run.1 place (omega arith);
         }) run.2
+
+-- what drives a register, read in settled nets
+read_in : Nets → Option Ref → Bool
+read_in nets None = false
+read_in nets (Some source) = bit_at nets source
+
+value_in : Option Value → Bool
+value_in None = false
+value_in (Some value) = is_yes value
+
+-- from any values of the registers there is a clock
+clocks : (v : VModule) → IsValid v → (registers : Control) → (outs : List Bool) × (next : Control) × IsClock v registers outs next
+unfolding read_in
+clocks v valid registers =
+    let wires = settled_after registers v.wires [] in
+    let nets = with_wires registers wires in
+    (map (bit_at nets) v.outs, λ number. read_in nets (slice_get v.nexts number), record {
+      wires = nets.wires;
+      settles = settles (length v.regs) registers v.wires valid.wires;
+      outs_are = refl;
+      takes = λ number source is. ap (read_in nets) is;
+    })
+
+-- so many clocks
+clocks_from : (v : VModule) → IsValid v → (steps : ℕ) (registers : Control) → (rows : List (List Bool)) × ClocksFrom v registers rows × (length rows ≡ steps)
+clocks_from v valid zero registers = ([], tt, refl)
+clocks_from v valid (suc steps) registers =
+    let one = clocks v valid registers in
+    let more = clocks_from v valid steps one.1 in
+    (one.0 ∷ more.0, (one.1, one.2, more.1), ap (λ n. suc n) more.2)
+
+runs_for : (v : VModule) → IsValid v → (steps : ℕ) → (rows : List (List Bool)) × IsVerilogRun v rows × (length rows ≡ steps)
+unfolding value_in
+runs_for v valid steps =
+    let registers = λ (number : ℕ). value_in (slice_get v.regs number) in
+    let all = clocks_from v valid steps registers in
+    (all.0, (registers, λ number value is. ap value_in is, all.1), all.2)
+
+-- A circuit that implements a module of the first language does its program.
+pub does_program : (m : Module) (v : VModule) → IsFirst m → RunsAs m → Implements v m → DoesProgram v m
+does_program m v first known implements = record {
+  name = implements.name;
+  outputs = implements.outputs;
+  runs = λ steps.
+    let run = runs_for v implements.valid steps in
+    let rows : run.0 ≡ rows_of m steps = rows_of_run m first v implements run.0 run.1 ∙ ap (rows_of m) run.2 in
+    (run.0, run.1, run.2, subst (λ rs. IsRun (program_of m) (replicate steps []) (values_of rs)) (sym rows) (known.runs steps));
+  only = λ steps rows outs long run other.
+    let same : rows ≡ rows_of m steps = rows_of_run m first v implements rows run ∙ ap (rows_of m) long in
+    known.only steps outs other ∙ ap values_of (sym same);
+}
