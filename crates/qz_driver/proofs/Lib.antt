@@ -2,3 +2,4 @@ pub mod WireLemmas
 pub mod Growing
 pub mod Walks
 pub mod Driving
+pub mod Implementing

@@ -10,3 +10,4 @@ pub mod Verilog
 pub mod Does
 pub mod WireTable
 pub mod Driven
+pub mod Implements
