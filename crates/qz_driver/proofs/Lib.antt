@@ -20,3 +20,4 @@ mod ReadingLemmas
 mod GrammarLemmas
 mod FormalLemmas
 mod SourceLemmas
+pub mod Implementing

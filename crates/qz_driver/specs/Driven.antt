@@ -1,5 +1,5 @@
 -- What the walk for a circuit appends, read as bits.
-use Rattle.std.specs.Prelude.{ℕ, ◌≡◌, ◌<◌, Bool, ◌==◌, ◌&&◌, ◌||◌, List, map, length, slice_index_or}
+use Rattle.std.specs.Prelude.{ℕ, ◌≡◌, ◌<◌, ◌==◌, ◌&&◌, ◌||◌, List, map, length, slice_index_or}
 use Rattle.qz_driver.specs.declared.parts.DrivenWrite.{DrivenWrite}
 use Rattle.qz_driver.specs.declared.parts.DrivenPlace.{DrivenPlace}
 use Rattle.qz_driver.specs.declared.verilog.Ref.{Ref}

@@ -16,3 +16,4 @@ pub mod VerilogText
 pub mod WireTable
 pub mod Driven
 pub mod Clocks
+pub mod Implements

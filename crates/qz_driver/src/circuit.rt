@@ -4,6 +4,7 @@ ghost use Rattle.std.specs.Prelude.{◌≡◌, ℕ, true, ◌++◌, List, [], �
 ghost use Rattle.qz_values.specs.Values.{no};
 ghost use Rattle.qz_driver.specs.Does.{port_of};
 ghost use Rattle.qz_driver.specs.Driven.{rests_as_bits, writes_as_bits, AreDriven, IsDrivenMore};
+ghost use Rattle.qz_driver.specs.Implements.{Implements};
 ghost use Rattle.qz_driver.specs.Mirror.{mirror_of};
 ghost use Rattle.qz_driver.specs.Verilog.{Nets, bit_at};
 ghost use Rattle.qz_driver.specs.WireTable.{Reads, Extends};
@@ -20,18 +21,21 @@ use sqlite_items::Items;
 use std::alloc::{AllocError, Global};
 
 /// The circuit that does the module.
-pub fn circuit(alloc: Global, m: Module) -> Result<VModule, AllocError> {
+pub fn circuit(alloc: Global, m: Module) -> Result<VModule, AllocError>
+    ensures { IfOk result (λ v. Implements v m) }
+{
     let places = m.labels.len();
     let mut wires = Wires::new(alloc);
     let start = wires.not(Ref::Reg(places as u64))?;
     let always = wires.constant(true)?;
     let writes = all_writes(alloc, &mut wires, &m.body, start, always)?;
     let rests = all_rests(alloc, &mut wires, &m.body, start)?;
+    let outputs = ports(alloc, m.formals.as_slice())?;
     let outs = outs(alloc, &mut wires, m.formals.len(), writes.as_slice())?;
     let nexts = nexts(alloc, &mut wires, places, rests.as_slice(), always)?;
     Ok(VModule {
-        outputs: ports(alloc, m.formals.as_slice())?,
         name: m.name,
+        outputs,
         regs: initial(alloc, places)?,
         wires: Items::from_slice(alloc, wires.as_slice())?,
         outs: Items::from_vec(outs),
