@@ -9,7 +9,7 @@ use Rattle.qz_syntax.specs.declared.declarations.Class.TheVariants.{Event}
 use Rattle.qz_syntax.specs.declared.places.Later.TheVariants as later
 use Rattle.qz_meaning.specs.Walks.{behavior}
 use Rattle.qz_values.specs.declared.Value.{Value}
-use Rattle.qz_values.specs.Values.{is_yes}
+use Rattle.qz_values.specs.Values.{is_yes, no}
 use Rattle.qz_syntax.specs.declared.modules.Module.{Module}
 use Rattle.qz_syntax.specs.Numbers.{places_of}
 use Rattle.qz_syntax.proofs.NumberLemmas.{range-all_below}
@@ -22,7 +22,7 @@ use Rattle.qz_driver.specs.Mirror.{Bits, Control, Mirror, mirror_of, is_driven}
 use Rattle.qz_driver.specs.FirstLanguage.{is_first, IsFirst}
 use Rattle.qz_driver.specs.FirstResumes.{AreDifferent, IsControl, IsStill}
 use Rattle.qz_driver.specs.BitRuns.{BitState, unstarted, driven_bits, moved_bits, bit_row, next_state, bit_rows, rows_of, RunsAs}
-use Rattle.qz_driver.specs.Clocks.{started_in, clock_bits, rest_bits, driven_row, TakesBits, Implements}
+use Rattle.qz_driver.specs.Implements.{starts, step_writes, step_rests, IsStep, Implements}
 use Rattle.qz_driver.specs.Verilog.{Nets, bit_at, Settles, Takes, IsClock, ClocksFrom, BeginsWith, IsVerilogRun, IsValid}
 use Rattle.qz_driver.proofs.SettledWires.{with_wires, settled_after, settles}
 use Rattle.qz_driver.specs.Does.{DoesProgram, values_of}
@@ -31,6 +31,13 @@ use Rattle.qz_driver.proofs.StartMirror.{Starting, starting}
 use Rattle.qz_driver.proofs.PlaceLemmas.{range-different}
 use Rattle.qz_driver.proofs.FirstResuming.{is_still_where_control_is_away}
 use Rattle.qz_driver.proofs.MirrorAgrees.{SameAt, Agrees, mirror_agrees}
+
+-- each of the registers begins unset
+replicated : (count number : ℕ) → number ≤ count → slice_get (replicate count no ++ (no ∷ [])) number ≡ Some no
+replicated zero zero within = refl
+replicated zero (suc number) within = absurd (omega arith)
+replicated (suc count) zero within = refl
+replicated (suc count) (suc number) within = replicated count number (omega arith)
 
 -- each number of a range is below its end
 contains_below : (limit from len n : ℕ) → from + len ≡ limit → contains (range_with_len from len) n ≡ true → n < limit
@@ -80,7 +87,7 @@ module _ (m : Module) (first : IsFirst m) where
 
   -- the registers stand for a state
   record Stands (state : BitState) (registers : Control) : Type 0 where
-    started : started_in m registers ≡ state.started
+    started : registers (length m.labels) ≡ state.started
     same : (place : ℕ) → place < place_count → registers place ≡ state.control place
     fresh : state.started ≡ false → (place : ℕ) → place < place_count → registers place ≡ false
 
@@ -111,16 +118,17 @@ module _ (m : Module) (first : IsFirst m) where
       ∙ or-false (is_driven (body_bits.enter true) place)
 
   -- a clock's outputs are the state's row
-  row_of : (state : BitState) (registers : Control) → Stands state registers → driven_row m registers ≡ bit_row (length m.formals) body_bits state
+  row_of : (state : BitState) (registers : Control) → Stands state registers
+      → map (is_driven (step_writes m registers)) (range_with_len 0 (length m.formals)) ≡ bit_row (length m.formals) body_bits state
   row_of state registers stands =
       ap (λ (f : ℕ → Bool). map f (range_with_len 0 (length m.formals))) (fun_ext (λ output.
           ap (λ b. is_driven (body_bits.start (not b) ++ body_bits.resume registers true) output) stands.started
           ∙ drives_by state.started state.control registers stands.same stands.fresh output))
 
   -- what the registers take stands for the next state
-  next_stands : (state : BitState) (registers next : Control) → Stands state registers → TakesBits m registers next
+  next_stands : (state : BitState) (registers next : Control) (outs : List Bool) → Stands state registers → IsStep m registers outs next
       → Stands (next_state body_bits state) next
-  next_stands state registers next stands takes = record {
+  next_stands state registers next outs stands takes = record {
     started = takes.started;
     same = λ place below.
       takes.places place below
@@ -136,19 +144,23 @@ module _ (m : Module) (first : IsFirst m) where
     rows_from (row ∷ rows) state registers stands clocks =
         let next = clocks.0 in
         let clock = clocks.1 in
-        let here = implements.outs registers row next clock ∙ row_of state registers stands in
-        let later = rows_from rows (next_state body_bits state) next
-            (next_stands state registers next stands (implements.takes registers row next clock)) clocks.2 in
+        let step = implements.clock registers row next clock in
+        let here = step.outs_are ∙ row_of state registers stands in
+        let later = rows_from rows (next_state body_bits state) next (next_stands state registers next row stands step) clocks.2 in
         ap₂ (λ r rs. r ∷ rs) here later
 
     -- the rows of a run of the circuit are those of the body
     pub rows_of_run : (rows : List (List Bool)) → IsVerilogRun v rows → rows ≡ rows_of m (length rows)
     rows_of_run rows run =
         rows_from rows unstarted run.0 (record {
-          started = implements.begins run.0 run.1 place_count (omega arith);
-          same = λ place below. implements.begins run.0 run.1 place (omega arith);
-          fresh = λ e place below. implements.begins run.0 run.1 place (omega arith);
+          started = unset place_count (omega arith);
+          same = λ place below. unset place (omega arith);
+          fresh = λ e place below. unset place (omega arith);
         }) run.2
+      where
+        unset : (number : ℕ) → number ≤ place_count → run.0 number ≡ false
+        unset number within =
+            run.1 number no (ap (λ regs. slice_get regs number) implements.begins ∙ replicated place_count number within)
 
 -- what drives a register, read in settled nets
 read_in : Nets → Option Ref → Bool
@@ -188,12 +200,12 @@ runs_for v valid steps =
     (all.0, (registers, λ number value is. ap value_in is, all.1), all.2)
 
 -- A circuit that implements a module of the first language does its program.
-pub does_program : (m : Module) (v : VModule) → IsFirst m → RunsAs m → Implements v m → DoesProgram v m
-does_program m v first known implements = record {
+pub does_program : (m : Module) (v : VModule) → IsFirst m → RunsAs m → IsValid v → Implements v m → DoesProgram v m
+does_program m v first known valid implements = record {
   name = implements.name;
   outputs = implements.outputs;
   runs = λ steps.
-    let run = runs_for v implements.valid steps in
+    let run = runs_for v valid steps in
     let rows : run.0 ≡ rows_of m steps = rows_of_run m first v implements run.0 run.1 ∙ ap (rows_of m) run.2 in
     (run.0, run.1, run.2, subst (λ rs. IsRun (program_of m) (replicate steps []) (values_of rs)) (sym rows) (known.runs steps));
   only = λ steps rows outs long run other.

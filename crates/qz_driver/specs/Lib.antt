@@ -15,5 +15,4 @@ pub mod Does
 pub mod VerilogText
 pub mod WireTable
 pub mod Driven
-pub mod Clocks
 pub mod Implements
