@@ -2,3 +2,4 @@ mod ReadingLemmas
 mod GrammarLemmas
 mod FormalLemmas
 mod SourceLemmas
+mod InstantLemmas
