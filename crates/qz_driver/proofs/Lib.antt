@@ -21,3 +21,4 @@ mod GrammarLemmas
 mod FormalLemmas
 mod SourceLemmas
 pub mod Implementing
+mod InstantLemmas
