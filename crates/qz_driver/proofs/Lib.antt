@@ -6,12 +6,9 @@ pub mod FirstInduction
 pub mod BitLemmas
 pub mod PlaceLemmas
 pub mod StartMirror
-pub mod MirrorAgrees
 pub mod ResumeMirror
 pub mod ResumeSequences
 pub mod FirstResuming
-pub mod ClockRuns
-pub mod SettledWires
 pub mod BitVerdicts
 pub mod FirstSteps
 pub mod FirstRuns
