@@ -8,3 +8,5 @@ pub mod FirstResuming
 pub mod BitVerdicts
 pub mod FirstSteps
 pub mod FirstRuns
+pub mod SettleLemmas
+pub mod ClockRuns

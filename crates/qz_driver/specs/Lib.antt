@@ -10,4 +10,5 @@ pub mod FirstWalk
 pub mod FirstResumes
 pub mod BitRuns
 pub mod Verilog
+pub mod VerilogLaws
 pub mod Does
