@@ -10,3 +10,9 @@ pub mod FirstSteps
 pub mod FirstRuns
 pub mod SettleLemmas
 pub mod ClockRuns
+pub mod WireLemmas
+pub mod Growing
+pub mod Walks
+pub mod Driving
+pub mod Implementing
+pub mod DoingPrograms

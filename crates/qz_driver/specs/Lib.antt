@@ -12,3 +12,6 @@ pub mod BitRuns
 pub mod Verilog
 pub mod VerilogLaws
 pub mod Does
+pub mod WireTable
+pub mod Driven
+pub mod Implements

@@ -1,5 +1,5 @@
 -- What a Verilog module means, after IEEE 1364-2005, where all nets are one bit wide.
-use Rattle.std.specs.Prelude.{ℕ, ◌≡◌, ◌+◌, ◌<◌, Bool, true, false, ◌&&◌, ◌||◌, not, List, [], ◌∷◌, map, length, Option, Some, slice_get}
+use Rattle.std.specs.Prelude.{ℕ, ◌≡◌, ◌<◌, Bool, false, ◌&&◌, ◌||◌, not, List, [], ◌∷◌, map, length, Some, slice_get}
 use Rattle.std.specs.List.{AllByRecursion}
 use Rattle.qz_values.specs.declared.Value.{Value}
 use Rattle.qz_values.specs.declared.Op2.{Op2}

@@ -1,48 +1,94 @@
 //! The circuit of a module: a register for each place, and one that says that it was started.
 
+ghost use Rattle.std.specs.Prelude.{◌≡◌, ℕ, true, ◌++◌, List, [], ◌∷◌, map, length, replicate, IfOk, OnOk};
+ghost use Rattle.qz_values.specs.Values.{no};
+ghost use Rattle.qz_driver.specs.Does.{port_of};
+ghost use Rattle.qz_driver.specs.Driven.{rests_as_bits, writes_as_bits, AreDriven, IsDrivenMore};
+ghost use Rattle.qz_driver.specs.Implements.{Implements};
+ghost use Rattle.qz_driver.specs.Mirror.{mirror_of};
+ghost use Rattle.qz_driver.specs.Verilog.{Nets, bit_at};
+ghost use Rattle.qz_driver.specs.WireTable.{Reads, Extends};
+
 use crate::control::{enter, moves};
 use crate::depth::depth;
-use crate::parts::{Circuit, DrivenPlace, DrivenWrite};
+use crate::parts::{DrivenPlace, DrivenWrite};
 use crate::surface::surface;
 use crate::verilog::{Ref, VModule};
 use crate::wires::Wires;
-use qz_syntax::{Formal, Module, Port};
+use qz_syntax::{Formal, Module, Port, Stmt};
 use qz_values::Value;
 use sqlite_items::Items;
 use std::alloc::{AllocError, Global};
 
 /// The circuit that does the module.
-pub fn circuit(alloc: Global, m: Module) -> Result<VModule, AllocError> {
+pub fn circuit(alloc: Global, m: Module) -> Result<VModule, AllocError>
+    ensures { IfOk result (λ v. Implements v m) }
+{
     let places = m.labels.len();
-    let mut c = Circuit::new(alloc);
-    let started = Ref::Reg(places as u64);
-    let start = c.wires.not(started)?;
-    let act = c.wires.constant(true)?;
-    surface(&mut c, &m.body, start)?;
-    depth(&mut c, &m.body, act)?;
-    enter(&mut c, &m.body, start)?;
-    moves(&mut c, &m.body)?;
-    let Circuit {
-        mut wires,
-        writes,
-        rests,
-    } = c;
+    let mut wires = Wires::new(alloc);
+    let start = wires.not(Ref::Reg(places as u64))?;
+    let always = wires.constant(true)?;
+    let writes = all_writes(alloc, &mut wires, &m.body, start, always)?;
+    let rests = all_rests(alloc, &mut wires, &m.body, start)?;
+    let outputs = ports(alloc, m.formals.as_slice())?;
     let outs = outs(alloc, &mut wires, m.formals.len(), writes.as_slice())?;
-    let nexts = nexts(alloc, &mut wires, places, rests.as_slice(), act)?;
+    let nexts = nexts(alloc, &mut wires, places, rests.as_slice(), always)?;
     Ok(VModule {
-        outputs: ports(alloc, m.formals.as_slice())?,
         name: m.name,
+        outputs,
         regs: initial(alloc, places)?,
         wires: Items::from_slice(alloc, wires.as_slice())?,
-        outs,
-        nexts,
+        outs: Items::from_vec(outs),
+        nexts: Items::from_vec(nexts),
     })
 }
 
+/// The writes of a start, and of a resume that may act.
+fn all_writes(
+    alloc: Global,
+    wires: &mut Wires,
+    body: &Stmt,
+    start: Ref,
+    always: Ref,
+) -> Result<Vec<DrivenWrite>, AllocError>
+    ensures extends { OnOk result (Extends wires.old wires.new) }
+    ensures means { IfOk result (λ writes. (nets : Nets) → Reads nets wires.new →
+        writes_as_bits nets writes.items ≡ (mirror_of body.now).start (bit_at nets start)
+        ++ (mirror_of body.now).resume nets.registers (bit_at nets always)) }
+{
+    let mut writes = Vec::new(alloc);
+    surface(wires, &mut writes, body, start)?;
+    depth(wires, &mut writes, body, always)?;
+    Ok(writes)
+}
+
+/// The places where control rests after a start, and after a resume.
+fn all_rests(
+    alloc: Global,
+    wires: &mut Wires,
+    body: &Stmt,
+    start: Ref,
+) -> Result<Vec<DrivenPlace>, AllocError>
+    ensures extends { OnOk result (Extends wires.old wires.new) }
+    ensures means { IfOk result (λ rests. (nets : Nets) → Reads nets wires.new →
+        rests_as_bits nets rests.items ≡ (mirror_of body.now).enter (bit_at nets start)
+        ++ (mirror_of body.now).move nets.registers) }
+{
+    let mut rests = Vec::new(alloc);
+    enter(wires, &mut rests, body, start)?;
+    moves(wires, &mut rests, body)?;
+    Ok(rests)
+}
+
 /// A net for each of so many numbers, with no driver yet.
-fn undriven(alloc: Global, wires: &mut Wires, count: usize) -> Result<Vec<Ref>, AllocError> {
+fn undriven(alloc: Global, wires: &mut Wires, count: usize) -> Result<Vec<Ref>, AllocError>
+    ensures extends { OnOk result (Extends wires.old wires.new) }
+    ensures count { IfOk result (λ row. length row.items ≡ count) }
+    ensures means { IfOk result (λ row. (nets : Nets) → Reads nets wires.new → AreDriven nets [] row.items) }
+{
     let never = wires.constant(false)?;
-    vec![in alloc; never; count]
+    let row = vec![in alloc; never; count]?;
+    Ok(row)
 }
 
 /// What drives each output: it is true where some write with a true guard makes it so.
@@ -51,13 +97,17 @@ fn outs(
     wires: &mut Wires,
     count: usize,
     writes: &[DrivenWrite],
-) -> Result<Items<Ref>, AllocError> {
+) -> Result<Vec<Ref>, AllocError>
+    ensures extends { OnOk result (Extends wires.old wires.new) }
+    ensures count { IfOk result (λ row. length row.items ≡ count) }
+    ensures means { IfOk result (λ row. (nets : Nets) → Reads nets wires.new → AreDriven nets (writes_as_bits nets writes.now) row.items) }
+{
     let mut outs = undriven(alloc, wires, count)?;
     for write in writes {
         let driven = wires.and(write.guard, write.value)?;
         drive(wires, outs.as_mut_slice(), write.output as usize, driven)?;
     }
-    Ok(Items::from_vec(outs))
+    Ok(outs)
 }
 
 /// What each place's register takes at the clock, and last that of "started".
@@ -67,32 +117,58 @@ fn nexts(
     places: usize,
     rests: &[DrivenPlace],
     started: Ref,
-) -> Result<Items<Ref>, AllocError> {
+) -> Result<Vec<Ref>, AllocError>
+    ensures extends { OnOk result (Extends wires.old wires.new) }
+    ensures means { IfOk result (λ row. (nets : Nets) → Reads nets wires.new → (places_row : List Ref)
+        × (row.items ≡ places_row ++ started ∷ []) × (length places_row ≡ places) × AreDriven nets (rests_as_bits nets rests.now) places_row) }
+{
+    let mut nexts = next_places(alloc, wires, places, rests)?;
+    nexts.push(started)?;
+    Ok(nexts)
+}
+
+/// What each place's register takes at the clock: whether control rests there after the step.
+fn next_places(
+    alloc: Global,
+    wires: &mut Wires,
+    places: usize,
+    rests: &[DrivenPlace],
+) -> Result<Vec<Ref>, AllocError>
+    ensures extends { OnOk result (Extends wires.old wires.new) }
+    ensures count { IfOk result (λ row. length row.items ≡ places) }
+    ensures means { IfOk result (λ row. (nets : Nets) → Reads nets wires.new → AreDriven nets (rests_as_bits nets rests.now) row.items) }
+{
     let mut nexts = undriven(alloc, wires, places)?;
     for rest in rests {
         drive(wires, nexts.as_mut_slice(), rest.place as usize, rest.when)?;
     }
-    nexts.push(started)?;
-    Ok(Items::from_vec(nexts))
+    Ok(nexts)
 }
 
 /// One more net that drives the number's.
-fn drive(wires: &mut Wires, nets: &mut [Ref], number: usize, more: Ref) -> Result<(), AllocError> {
+fn drive(wires: &mut Wires, nets: &mut [Ref], number: usize, more: Ref) -> Result<(), AllocError>
+    ensures extends { OnOk result (Extends wires.old wires.new) }
+    ensures means { OnOk result ((values : Nets) → Reads values wires.new → IsDrivenMore values number more nets.old nets.new) }
+{
     if number < nets.len() {
-        nets[number] = wires.or(nets[number], more)?;
+        nets[number] = wires.or(more, nets[number])?;
     }
     Ok(())
 }
 
 /// The initial values: no place has control, and nothing is started.
-fn initial(alloc: Global, places: usize) -> Result<Items<Value>, AllocError> {
+fn initial(alloc: Global, places: usize) -> Result<Items<Value>, AllocError>
+    ensures { IfOk result (λ regs. regs ≡ replicate places no ++ no ∷ []) }
+{
     let mut regs = vec![in alloc; Value::truth(false); places]?;
     regs.push(Value::truth(false))?;
     Ok(Items::from_vec(regs))
 }
 
 /// The formals as ports.
-fn ports(alloc: Global, formals: &[Formal]) -> Result<Items<Port>, AllocError> {
+fn ports(alloc: Global, formals: &[Formal]) -> Result<Items<Port>, AllocError>
+    ensures { IfOk result (λ ports. ports ≡ map port_of formals.now) }
+{
     let mut ports = Items::new(alloc);
     for formal in formals {
         ports.push(Port {

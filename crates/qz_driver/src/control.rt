@@ -2,147 +2,226 @@
 //!
 //! The register of a place says that control rests there.
 
-use crate::parts::Circuit;
-use crate::verilog::Ref;
+ghost use Rattle.std.specs.Prelude.{◌≡◌, false, ◌&&◌, not, ◌++◌, List, [], ◌∷◌, map, IfOk, OnOk};
+ghost use Rattle.qz_driver.specs.Verilog.{Nets, bit_at};
+ghost use Rattle.qz_driver.specs.WireTable.{Reads, Extends};
+ghost use Rattle.qz_driver.specs.Driven.{rests_as_bits};
+ghost use Rattle.qz_driver.specs.Mirror.{mirror_of, bit_of, all_at_once, enter_all, ended_after, ended_all, move_all, turns_by};
+
+use crate::parts::DrivenPlace;
+use crate::verilog::{Ref, is_true};
+use crate::wires::Wires;
 use qz_syntax::{Expr, Stmt};
 use std::alloc::AllocError;
 
 /// The value of an expression.
-pub fn value(c: &mut Circuit, e: &Expr) -> Result<Ref, AllocError> {
+pub fn value(wires: &mut Wires, e: &Expr) -> Result<Ref, AllocError>
+    ensures extends { OnOk result (Extends wires.old wires.new) }
+    ensures means { IfOk result (λ net. (nets : Nets) → Reads nets wires.new → bit_at nets net ≡ bit_of e.now) }
+{
     match e {
-        Expr::Lit(v) => c.wires.constant(v.bits() == 1),
-        _ => c.wires.constant(false),
+        Expr::Lit(v) => wires.constant(is_true(*v)),
+        _ => wires.constant(false),
     }
-}
-
-/// Control rests in the statement.
-#[cycle(inside)]
-pub fn inside(c: &mut Circuit, s: &Stmt) -> Result<Ref, AllocError> {
-    match s {
-        Stmt::Pause(place) => Ok(Ref::Reg(u64::from(*place))),
-        Stmt::Seq(parts) => inside_any(c, parts.as_slice()),
-        Stmt::Loop(_, body, _) => inside(c, body.get()),
-        _ => c.wires.constant(false),
-    }
-}
-
-/// Control rests in one of the members.
-#[cycle(inside)]
-fn inside_any(c: &mut Circuit, parts: &[Stmt]) -> Result<Ref, AllocError> {
-    let mut any = c.wires.constant(false)?;
-    for part in parts {
-        let here = inside(c, part)?;
-        any = c.wires.or(any, here)?;
-    }
-    Ok(any)
 }
 
 /// Started, the statement ends in the same step.
 #[cycle(ends_at_once)]
-pub fn ends_at_once(c: &mut Circuit, s: &Stmt) -> Result<Ref, AllocError> {
+pub fn ends_at_once(wires: &mut Wires, s: &Stmt) -> Result<Ref, AllocError>
+    ensures extends { OnOk result (Extends wires.old wires.new) }
+    ensures means { IfOk result (λ net. (nets : Nets) → Reads nets wires.new →
+        bit_at nets net ≡ (mirror_of s.now).at_once) }
+{
     match s {
-        Stmt::Nothing | Stmt::Assign(..) => c.wires.constant(true),
-        Stmt::Seq(parts) => all_end_at_once(c, parts.as_slice()),
-        _ => c.wires.constant(false),
+        Stmt::Pause(_) | Stmt::Loop(..) => wires.constant(false),
+        Stmt::Seq(parts) => all_end_at_once(wires, parts.as_slice()),
+        _ => wires.constant(true),
     }
 }
 
 /// Started one after the other, all members end in the same step.
 #[cycle(ends_at_once)]
-fn all_end_at_once(c: &mut Circuit, parts: &[Stmt]) -> Result<Ref, AllocError> {
-    let mut ends = c.wires.constant(true)?;
+fn all_end_at_once(wires: &mut Wires, parts: &[Stmt]) -> Result<Ref, AllocError>
+    ensures extends { OnOk result (Extends wires.old wires.new) }
+    ensures means { IfOk result (λ net. (nets : Nets) → Reads nets wires.new →
+        bit_at nets net ≡ all_at_once (map mirror_of parts.now)) }
+{
+    let mut ends = wires.constant(true)?;
     for part in parts {
-        let part_ends = ends_at_once(c, part)?;
-        ends = c.wires.and(ends, part_ends)?;
+        let part_ends = ends_at_once(wires, part)?;
+        ends = wires.and(ends, part_ends)?;
     }
     Ok(ends)
 }
 
 /// Control rests in the statement, and resumed it ends.
 #[cycle(ends)]
-pub fn ends(c: &mut Circuit, s: &Stmt) -> Result<Ref, AllocError> {
+pub fn ends(wires: &mut Wires, s: &Stmt) -> Result<Ref, AllocError>
+    ensures extends { OnOk result (Extends wires.old wires.new) }
+    ensures means { IfOk result (λ net. (nets : Nets) → Reads nets wires.new →
+        bit_at nets net ≡ (mirror_of s.now).ended nets.registers) }
+{
     match s {
         Stmt::Pause(place) => Ok(Ref::Reg(u64::from(*place))),
-        Stmt::Seq(parts) => last_ends(c, parts.as_slice()),
-        Stmt::Loop(_, body, condition) => {
-            let body_ends = ends(c, body.get())?;
-            let again = value(c, condition)?;
-            let leaves = c.wires.not(again)?;
-            c.wires.and(body_ends, leaves)
-        }
-        _ => c.wires.constant(false),
+        Stmt::Seq(parts) => last_ends(wires, parts.as_slice()),
+        Stmt::Loop(_, body, condition) => leaves(wires, body.get(), condition),
+        _ => wires.constant(false),
     }
+}
+
+/// Resumed, a loop's body ends and its condition doesn't hold.
+#[cycle(ends)]
+fn leaves(wires: &mut Wires, body: &Stmt, condition: &Expr) -> Result<Ref, AllocError>
+    ensures extends { OnOk result (Extends wires.old wires.new) }
+    ensures means { IfOk result (λ net. (nets : Nets) → Reads nets wires.new →
+        bit_at nets net ≡ ((mirror_of body.now).ended nets.registers && not (bit_of condition.now))) }
+{
+    let body_ends = ends(wires, body)?;
+    let again = value(wires, condition)?;
+    let ends = wires.not(again)?;
+    let net = wires.and(body_ends, ends)?;
+    Ok(net)
 }
 
 /// Control rests in a member, and resumed it and all later ones end.
 #[cycle(ends)]
-fn last_ends(c: &mut Circuit, parts: &[Stmt]) -> Result<Ref, AllocError> {
-    let mut so_far = c.wires.constant(false)?;
+fn last_ends(wires: &mut Wires, parts: &[Stmt]) -> Result<Ref, AllocError>
+    ensures extends { OnOk result (Extends wires.old wires.new) }
+    ensures means { IfOk result (λ net. (nets : Nets) → Reads nets wires.new →
+        bit_at nets net ≡ ended_all (map mirror_of parts.now) nets.registers false) }
+{
+    let mut so_far = wires.constant(false)?;
     for part in parts {
-        so_far = ends_after(c, part, so_far)?;
+        so_far = ends_after(wires, part, so_far)?;
     }
     Ok(so_far)
 }
 
 /// The ends of a sequence up to and with a member, from those before it.
 #[cycle(ends)]
-pub fn ends_after(c: &mut Circuit, part: &Stmt, before: Ref) -> Result<Ref, AllocError> {
-    let at_once = ends_at_once(c, part)?;
-    let passed = c.wires.and(before, at_once)?;
-    let resumed = ends(c, part)?;
-    c.wires.or(passed, resumed)
+pub fn ends_after(wires: &mut Wires, part: &Stmt, before: Ref) -> Result<Ref, AllocError>
+    ensures extends { OnOk result (Extends wires.old wires.new) }
+    ensures means { IfOk result (λ net. (nets : Nets) → Reads nets wires.new →
+        bit_at nets net ≡ ended_after (mirror_of part.now) nets.registers (bit_at nets before)) }
+{
+    let at_once = ends_at_once(wires, part)?;
+    let passed = wires.and(before, at_once)?;
+    let resumed = ends(wires, part)?;
+    let net = wires.or(passed, resumed)?;
+    Ok(net)
+}
+
+/// Resumed, a loop's body ends and its condition holds.
+pub fn turns(wires: &mut Wires, body: &Stmt, condition: &Expr) -> Result<Ref, AllocError>
+    ensures extends { OnOk result (Extends wires.old wires.new) }
+    ensures means { IfOk result (λ net. (nets : Nets) → Reads nets wires.new →
+        bit_at nets net ≡ turns_by (mirror_of body.now) condition.now nets.registers) }
+{
+    let body_ends = ends(wires, body)?;
+    let again = value(wires, condition)?;
+    let net = wires.and(body_ends, again)?;
+    Ok(net)
 }
 
 /// Where control rests after a start.
 #[cycle(enter)]
-pub fn enter(c: &mut Circuit, s: &Stmt, start: Ref) -> Result<(), AllocError> {
+pub fn enter(
+    wires: &mut Wires,
+    rests: &mut Vec<DrivenPlace>,
+    s: &Stmt,
+    start: Ref,
+) -> Result<(), AllocError>
+    ensures extends { OnOk result (Extends wires.old wires.new) }
+    ensures means { OnOk result ((nets : Nets) → Reads nets wires.new →
+        rests_as_bits nets rests.new.items ≡ rests_as_bits nets rests.old.items ++ (mirror_of s.now).enter (bit_at nets start)) }
+{
     match s {
-        Stmt::Pause(place) => c.rest(*place, start),
-        Stmt::Seq(parts) => enter_first(c, parts.as_slice(), start),
-        Stmt::Loop(_, body, _) => enter(c, body.get(), start),
+        Stmt::Pause(place) => rest(rests, *place, start),
+        Stmt::Seq(parts) => enter_first(wires, rests, parts.as_slice(), start),
+        Stmt::Loop(_, body, _) => enter(wires, rests, body.get(), start),
         _ => Ok(()),
     }
 }
 
+/// One more place where control rests.
+fn rest(rests: &mut Vec<DrivenPlace>, place: u32, when: Ref) -> Result<(), AllocError>
+    ensures { OnOk result ((nets : Nets) →
+        rests_as_bits nets rests.new.items ≡ rests_as_bits nets rests.old.items ++ ((place, bit_at nets when) ∷ [])) }
+{
+    rests.push(DrivenPlace { place, when })?;
+    Ok(())
+}
+
+/// Members that are started one after the other.
 #[cycle(enter)]
-fn enter_first(c: &mut Circuit, parts: &[Stmt], start: Ref) -> Result<(), AllocError> {
+fn enter_first(
+    wires: &mut Wires,
+    rests: &mut Vec<DrivenPlace>,
+    parts: &[Stmt],
+    start: Ref,
+) -> Result<(), AllocError>
+    ensures extends { OnOk result (Extends wires.old wires.new) }
+    ensures means { OnOk result ((nets : Nets) → Reads nets wires.new →
+        rests_as_bits nets rests.new.items ≡ rests_as_bits nets rests.old.items ++ enter_all (map mirror_of parts.now) (bit_at nets start)) }
+{
     let mut start = start;
     for part in parts {
-        enter(c, part, start)?;
-        let part_ends = ends_at_once(c, part)?;
-        start = c.wires.and(start, part_ends)?;
+        enter(wires, rests, part, start)?;
+        let part_ends = ends_at_once(wires, part)?;
+        start = wires.and(start, part_ends)?;
     }
     Ok(())
 }
 
 /// Where control rests after a resume.
 #[cycle(moves)]
-pub fn moves(c: &mut Circuit, s: &Stmt) -> Result<(), AllocError> {
+pub fn moves(wires: &mut Wires, rests: &mut Vec<DrivenPlace>, s: &Stmt) -> Result<(), AllocError>
+    ensures extends { OnOk result (Extends wires.old wires.new) }
+    ensures means { OnOk result ((nets : Nets) → Reads nets wires.new →
+        rests_as_bits nets rests.new.items ≡ rests_as_bits nets rests.old.items ++ (mirror_of s.now).move nets.registers) }
+{
     match s {
-        Stmt::Seq(parts) => moves_on(c, parts.as_slice()),
-        Stmt::Loop(_, body, condition) => {
-            moves(c, body.get())?;
-            let turns = turns(c, body.get(), condition)?;
-            enter(c, body.get(), turns)
-        }
+        Stmt::Seq(parts) => moves_on(wires, rests, parts.as_slice()),
+        Stmt::Loop(_, body, condition) => moves_round(wires, rests, body.get(), condition),
         _ => Ok(()),
     }
 }
 
+/// A loop's body that is resumed, and started again where it ends and the condition holds.
 #[cycle(moves)]
-fn moves_on(c: &mut Circuit, parts: &[Stmt]) -> Result<(), AllocError> {
-    let mut so_far = c.wires.constant(false)?;
-    for part in parts {
-        moves(c, part)?;
-        enter(c, part, so_far)?;
-        so_far = ends_after(c, part, so_far)?;
-    }
+fn moves_round(
+    wires: &mut Wires,
+    rests: &mut Vec<DrivenPlace>,
+    body: &Stmt,
+    condition: &Expr,
+) -> Result<(), AllocError>
+    ensures extends { OnOk result (Extends wires.old wires.new) }
+    ensures means { OnOk result ((nets : Nets) → Reads nets wires.new →
+        rests_as_bits nets rests.new.items ≡ rests_as_bits nets rests.old.items
+        ++ ((mirror_of body.now).move nets.registers ++ (mirror_of body.now).enter (turns_by (mirror_of body.now) condition.now nets.registers))) }
+{
+    moves(wires, rests, body)?;
+    let turns = turns(wires, body, condition)?;
+    enter(wires, rests, body, turns)?;
     Ok(())
 }
 
-/// Resumed, a loop's body ends and its condition holds.
-pub fn turns(c: &mut Circuit, body: &Stmt, condition: &Expr) -> Result<Ref, AllocError> {
-    let body_ends = ends(c, body)?;
-    let again = value(c, condition)?;
-    c.wires.and(body_ends, again)
+/// Members of which one is resumed, and those after it started as it ends.
+#[cycle(moves)]
+fn moves_on(
+    wires: &mut Wires,
+    rests: &mut Vec<DrivenPlace>,
+    parts: &[Stmt],
+) -> Result<(), AllocError>
+    ensures extends { OnOk result (Extends wires.old wires.new) }
+    ensures means { OnOk result ((nets : Nets) → Reads nets wires.new →
+        rests_as_bits nets rests.new.items ≡ rests_as_bits nets rests.old.items ++ move_all (map mirror_of parts.now) nets.registers false) }
+{
+    let mut so_far = wires.constant(false)?;
+    for part in parts {
+        moves(wires, rests, part)?;
+        enter(wires, rests, part, so_far)?;
+        so_far = ends_after(wires, part, so_far)?;
+    }
+    Ok(())
 }

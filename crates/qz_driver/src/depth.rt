@@ -1,35 +1,79 @@
 //! What a statement does in a step in which control rests inside it.
 
+ghost use Rattle.std.specs.Prelude.{◌≡◌, false, ◌&&◌, ◌++◌, List, map, OnOk};
+ghost use Rattle.qz_driver.specs.Verilog.{Nets, bit_at};
+ghost use Rattle.qz_driver.specs.WireTable.{Reads, Extends};
+ghost use Rattle.qz_driver.specs.Driven.{writes_as_bits};
+ghost use Rattle.qz_driver.specs.Mirror.{mirror_of, resume_all, turns_by};
+
 use crate::control::{ends_after, turns};
-use crate::parts::Circuit;
+use crate::parts::DrivenWrite;
 use crate::surface::surface;
 use crate::verilog::Ref;
-use qz_syntax::Stmt;
+use crate::wires::Wires;
+use qz_syntax::{Expr, Stmt};
 use std::alloc::AllocError;
 
 /// The writes of a resume.
 #[cycle(depth)]
-pub fn depth(c: &mut Circuit, s: &Stmt, act: Ref) -> Result<(), AllocError> {
+pub fn depth(
+    wires: &mut Wires,
+    writes: &mut Vec<DrivenWrite>,
+    s: &Stmt,
+    act: Ref,
+) -> Result<(), AllocError>
+    ensures extends { OnOk result (Extends wires.old wires.new) }
+    ensures means { OnOk result ((nets : Nets) → Reads nets wires.new →
+        writes_as_bits nets writes.new.items ≡ writes_as_bits nets writes.old.items ++ (mirror_of s.now).resume nets.registers (bit_at nets act)) }
+{
     match s {
-        Stmt::Seq(parts) => depth_of_all(c, parts.as_slice(), act),
-        Stmt::Loop(_, body, condition) => {
-            depth(c, body.get(), act)?;
-            let turns = turns(c, body.get(), condition)?;
-            let again = c.wires.and(act, turns)?;
-            surface(c, body.get(), again)
-        }
+        Stmt::Seq(parts) => depth_of_all(wires, writes, parts.as_slice(), act),
+        Stmt::Loop(_, body, condition) => depth_of_loop(wires, writes, body.get(), condition, act),
         _ => Ok(()),
     }
 }
 
+/// The writes of a loop's body that is resumed, and started again where it ends and the condition
+/// holds.
 #[cycle(depth)]
-fn depth_of_all(c: &mut Circuit, parts: &[Stmt], act: Ref) -> Result<(), AllocError> {
-    let mut so_far = c.wires.constant(false)?;
+fn depth_of_loop(
+    wires: &mut Wires,
+    writes: &mut Vec<DrivenWrite>,
+    body: &Stmt,
+    condition: &Expr,
+    act: Ref,
+) -> Result<(), AllocError>
+    ensures extends { OnOk result (Extends wires.old wires.new) }
+    ensures means { OnOk result ((nets : Nets) → Reads nets wires.new →
+        writes_as_bits nets writes.new.items ≡ writes_as_bits nets writes.old.items
+        ++ ((mirror_of body.now).resume nets.registers (bit_at nets act)
+        ++ (mirror_of body.now).start (bit_at nets act && turns_by (mirror_of body.now) condition.now nets.registers))) }
+{
+    depth(wires, writes, body, act)?;
+    let turns = turns(wires, body, condition)?;
+    let again = wires.and(act, turns)?;
+    surface(wires, writes, body, again)?;
+    Ok(())
+}
+
+/// The writes of members of which one is resumed, and those after it started as it ends.
+#[cycle(depth)]
+fn depth_of_all(
+    wires: &mut Wires,
+    writes: &mut Vec<DrivenWrite>,
+    parts: &[Stmt],
+    act: Ref,
+) -> Result<(), AllocError>
+    ensures extends { OnOk result (Extends wires.old wires.new) }
+    ensures means { OnOk result ((nets : Nets) → Reads nets wires.new →
+        writes_as_bits nets writes.new.items ≡ writes_as_bits nets writes.old.items ++ resume_all (map mirror_of parts.now) nets.registers (bit_at nets act) false) }
+{
+    let mut so_far = wires.constant(false)?;
     for part in parts {
-        depth(c, part, act)?;
-        let start = c.wires.and(act, so_far)?;
-        surface(c, part, start)?;
-        so_far = ends_after(c, part, so_far)?;
+        depth(wires, writes, part, act)?;
+        let start = wires.and(act, so_far)?;
+        surface(wires, writes, part, start)?;
+        so_far = ends_after(wires, part, so_far)?;
     }
     Ok(())
 }

@@ -3,8 +3,11 @@
 //! The constructs follow IEEE 1364-2005. All nets are one bit wide here. A wire's right side reads
 //! registers and earlier wires alone.
 
+ghost use Rattle.std.specs.Prelude.{◌≡◌};
+ghost use Rattle.qz_values.specs.Values.{is_yes};
+
 use qz_syntax::{Name, Port};
-use qz_values::{Op2, Value};
+use qz_values::{Op2, Ty, Value};
 use sqlite_items::Items;
 
 /// A net that is read.
@@ -38,4 +41,11 @@ pub struct VModule {
     pub outs: Items<Ref>,
     /// What each register takes at the clock.
     pub nexts: Items<Ref>,
+}
+
+/// Whether the value is the bool `true`.
+pub fn is_true(value: Value) -> bool
+    ensures { result ≡ is_yes value }
+{
+    matches!(value.ty(), Ty::Bool) && value.bits() == 1
 }

@@ -1,6 +1,11 @@
 //! The wires of a circuit that is being made: equal right sides have one wire.
 
-use crate::verilog::{Ref, Rhs};
+ghost use Rattle.std.specs.Prelude.{◌≡◌, ℕ, ◌&&◌, ◌||◌, not, length, IfOk, IfSome};
+ghost use Rattle.qz_driver.specs.declared.verilog.Rhs.{Rhs};
+ghost use Rattle.qz_driver.specs.Verilog.{Nets, bit_at, right_side};
+ghost use Rattle.qz_driver.specs.WireTable.{rights, Reads, Extends};
+
+use crate::verilog::{Ref, Rhs, is_true};
 use indexmap::IndexSet;
 use qz_values::{Op2, Value};
 use std::alloc::{AllocError, Global};
@@ -19,49 +24,82 @@ impl Wires {
     }
 
     /// The right sides in the order of the wires' numbers.
-    pub fn as_slice(&self) -> &[Rhs] {
+    pub fn as_slice(&self) -> &[Rhs]
+        ensures { result.now ≡ rights self.now }
+    {
         self.table.as_slice()
     }
 
     /// The wire with this right side.
-    fn add(&mut self, rhs: Rhs) -> Result<Ref, AllocError> {
+    fn add(&mut self, rhs: Rhs) -> Result<Ref, AllocError>
+        ensures extends { Extends self.old self.new }
+        ensures means { IfOk result (λ net. (nets : Nets) → Reads nets self.new →
+            bit_at nets net ≡ right_side nets rhs) }
+    {
         let (number, _) = self.table.insert_full(rhs)?;
         Ok(Ref::Wire(number as u64))
     }
 
     /// The constant that the net is, if it is one.
-    fn constant_of(&self, net: Ref) -> Option<bool> {
+    fn constant_of(&self, net: Ref) -> Option<bool>
+        ensures { IfSome result (λ value. (nets : Nets) → Reads nets self.now → bit_at nets net ≡ value) }
+    {
         let Ref::Wire(number) = net else { return None };
         match self.table.get_index(number as usize) {
-            Some(Rhs::Const(value)) => Some(value.bits() == 1),
+            Some(Rhs::Const(value)) => Some(is_true(*value)),
             _ => None,
         }
     }
 
-    pub fn constant(&mut self, value: bool) -> Result<Ref, AllocError> {
+    pub fn constant(&mut self, value: bool) -> Result<Ref, AllocError>
+        ensures extends { Extends self.old self.new }
+        ensures means { IfOk result (λ net. (nets : Nets) → Reads nets self.new → bit_at nets net ≡ value) }
+    {
         self.add(Rhs::Const(Value::truth(value)))
     }
 
-    pub fn not(&mut self, a: Ref) -> Result<Ref, AllocError> {
+    pub fn not(&mut self, a: Ref) -> Result<Ref, AllocError>
+        ensures extends { Extends self.old self.new }
+        ensures means { IfOk result (λ net. (nets : Nets) → Reads nets self.new → bit_at nets net ≡ not (bit_at nets a)) }
+    {
         match self.constant_of(a) {
-            Some(value) => self.constant(!value),
+            Some(value) => {
+                let inverted = self.constant(!value)?;
+                Ok(inverted)
+            }
             None => self.add(Rhs::Invert(a)),
         }
     }
 
-    pub fn and(&mut self, a: Ref, b: Ref) -> Result<Ref, AllocError> {
-        match (self.constant_of(a), self.constant_of(b)) {
-            (Some(false), _) | (_, Some(true)) => Ok(a),
-            (Some(true), _) | (_, Some(false)) => Ok(b),
-            (None, None) => self.add(Rhs::Bin(Op2::And, a, b)),
+    pub fn and(&mut self, a: Ref, b: Ref) -> Result<Ref, AllocError>
+        ensures extends { Extends self.old self.new }
+        ensures means { IfOk result (λ net. (nets : Nets) → Reads nets self.new →
+            bit_at nets net ≡ (bit_at nets a && bit_at nets b)) }
+    {
+        match self.constant_of(a) {
+            Some(true) => Ok(b),
+            Some(false) => Ok(a),
+            None => match self.constant_of(b) {
+                Some(true) => Ok(a),
+                Some(false) => Ok(b),
+                None => self.add(Rhs::Bin(Op2::And, a, b)),
+            },
         }
     }
 
-    pub fn or(&mut self, a: Ref, b: Ref) -> Result<Ref, AllocError> {
-        match (self.constant_of(a), self.constant_of(b)) {
-            (Some(true), _) | (_, Some(false)) => Ok(a),
-            (Some(false), _) | (_, Some(true)) => Ok(b),
-            (None, None) => self.add(Rhs::Bin(Op2::Or, a, b)),
+    pub fn or(&mut self, a: Ref, b: Ref) -> Result<Ref, AllocError>
+        ensures extends { Extends self.old self.new }
+        ensures means { IfOk result (λ net. (nets : Nets) → Reads nets self.new →
+            bit_at nets net ≡ (bit_at nets a || bit_at nets b)) }
+    {
+        match self.constant_of(a) {
+            Some(true) => Ok(a),
+            Some(false) => Ok(b),
+            None => match self.constant_of(b) {
+                Some(true) => Ok(b),
+                Some(false) => Ok(a),
+                None => self.add(Rhs::Bin(Op2::Or, a, b)),
+            },
         }
     }
 }

@@ -1,0 +1,79 @@
+-- The clocks of a circuit that is made of nets that are the mirror's bits.
+use Rattle.std.proofs.Common.{◌≡◌, ℕ, ◌<◌, Bool, true, false, not, List, [], ◌∷◌, ◌++◌, map, length, get_or, slice_get, Some, ap, sym, ◌∙◌, subst, arith, length-append}
+use Rattle.std.specs.List.{range_with_len}
+use Rattle.std.proofs.lemmas.List.{get_or-map}
+use Rattle.std.proofs.lemmas.List.FromFn.{fill_by_all}
+use Rattle.std.proofs.lemmas.Option.{slice_get-get_or}
+use Rattle.std.proofs.Math.ListN.{get_or-append, length-map}
+use Rattle.std.proofs.Math.Seq.{get_or-append_seam}
+use Rattle.qz_syntax.specs.declared.modules.Module.{Module}
+use Rattle.qz_driver.specs.declared.parts.DrivenWrite.{DrivenWrite}
+use Rattle.qz_driver.specs.declared.parts.DrivenPlace.{DrivenPlace}
+use Rattle.qz_driver.specs.declared.verilog.Ref.{Ref}
+use Rattle.qz_driver.specs.declared.verilog.Ref.TheVariants.{Reg}
+use Rattle.qz_driver.specs.declared.verilog.Rhs.{Rhs}
+use Rattle.qz_driver.specs.declared.verilog.VModule.{VModule}
+use Rattle.qz_driver.specs.declared.wires.Wires.{Wires}
+use Rattle.qz_driver.specs.Driven.{writes_as_bits, rests_as_bits, AreDriven}
+use Rattle.qz_driver.specs.Implements.{step_writes, step_rests, IsStep}
+use Rattle.qz_driver.specs.Mirror.{Bits, Control, mirror_of, is_driven}
+use Rattle.qz_driver.specs.Verilog.{Nets, Settles, IsClock, bit_at}
+use Rattle.qz_driver.specs.WireTable.{rights, Reads}
+
+-- a row of driven nets, read as bits
+row_is : (nets : Nets) (bits : Bits) (row : List Ref) (n : ℕ) → length row ≡ n → AreDriven nets bits row
+    → map (bit_at nets) row ≡ map (is_driven bits) (range_with_len 0 n)
+row_is nets bits row n count driven =
+    fill_by_all (is_driven bits) (map (bit_at nets) row) n false (length-map row (bit_at nets) ∙ count)
+    (λ k within. let inside : k < length row = omega arith in get_or-map (bit_at nets) row k (Reg 0) false inside ∙ driven k (Reg 0) inside)
+
+-- an item of a list with one more item
+at_front : (row : List Ref) (last : Ref) (k : ℕ) → k < length row → slice_get (row ++ last ∷ []) k ≡ Some (get_or row k last)
+at_front row last k within =
+    slice_get-get_or (row ++ last ∷ []) k last (omega (arith, length-append row (last ∷ [])))
+    ∙ ap Some (get_or-append row (last ∷ []) last k within)
+
+at_last : (row : List Ref) (last : Ref) → slice_get (row ++ last ∷ []) (length row) ≡ Some last
+at_last row last =
+    slice_get-get_or (row ++ last ∷ []) (length row) last (omega (arith, length-append row (last ∷ [])))
+    ∙ ap Some (get_or-append_seam row last [] last)
+
+-- what the nets of a circuit mean in each reading of its table
+pub record IsMade (m : Module) (v : VModule) (table : Wires) (start always : Ref) (writes : List DrivenWrite) (rests : List DrivenPlace) : Type 0 where
+  pub wires : v.wires ≡ rights table
+  pub starting : (nets : Nets) → Reads nets table → bit_at nets start ≡ not (nets.registers (length m.labels))
+  pub always_true : (nets : Nets) → Reads nets table → bit_at nets always ≡ true
+  pub written : (nets : Nets) → Reads nets table
+      → writes_as_bits nets writes ≡ (mirror_of m.body).start (bit_at nets start) ++ (mirror_of m.body).resume nets.registers (bit_at nets always)
+  pub rested : (nets : Nets) → Reads nets table
+      → rests_as_bits nets rests ≡ (mirror_of m.body).enter (bit_at nets start) ++ (mirror_of m.body).move nets.registers
+  pub count : length v.outs ≡ length m.formals
+  pub outs : (nets : Nets) → Reads nets table → AreDriven nets (writes_as_bits nets writes) v.outs
+  pub nexts : (nets : Nets) → Reads nets table → (row : List Ref) × (v.nexts ≡ row ++ always ∷ [])
+      × (length row ≡ length m.labels) × AreDriven nets (rests_as_bits nets rests) row
+
+module _ (m : Module) (v : VModule) (table : Wires) (start always : Ref) (writes : List DrivenWrite) (rests : List DrivenPlace)
+    (made : IsMade m v table start always writes rests) where
+  pub clock_is_step : (registers : Control) (outs : List Bool) (next : Control) → IsClock v registers outs next → IsStep m registers outs next
+  clock_is_step registers outs next clock =
+      let nets : Nets = record { registers = registers; wires = clock.wires } in
+      let P : List Rhs → Type 0 = λ wires. Settles wires nets in
+      let reads : Reads nets table = record { settles = subst P made.wires clock.settles } in
+      let starting = made.starting nets reads in
+      let acting = made.always_true nets reads in
+      let body = mirror_of m.body in
+      let written : writes_as_bits nets writes ≡ step_writes m registers =
+      made.written nets reads ∙ (λ i. body.start (starting i) ++ body.resume registers (acting i)) in
+      let rested : rests_as_bits nets rests ≡ step_rests m registers =
+      made.rested nets reads ∙ ap (λ b. body.enter b ++ body.move registers) starting in
+      let nexts = made.nexts nets reads in
+      let source : (k : ℕ) (net : Ref) → slice_get (nexts.0 ++ always ∷ []) k ≡ Some net → next k ≡ bit_at nets net =
+      λ k net at. clock.takes k net (ap (λ row. slice_get row k) nexts.1 ∙ at) in
+      record {
+        outs_are = clock.outs_are ∙ row_is nets (writes_as_bits nets writes) v.outs (length m.formals) made.count (made.outs nets reads)
+            ∙ ap (λ bits. map (is_driven bits) (range_with_len 0 (length m.formals))) written;
+        places = λ place within.
+            let inside : place < length nexts.0 = let same = nexts.2 in omega arith in
+            source place _ (at_front nexts.0 always place inside) ∙ nexts.3 place always inside ∙ ap (λ bits. is_driven bits place) rested;
+        started = ap next (sym nexts.2) ∙ source (length nexts.0) always (at_last nexts.0 always) ∙ acting;
+      }

@@ -1,0 +1,13 @@
+use Rattle.std.proofs.Common.{ap}
+use Rattle.qz_driver.specs.Driven.{rests_as_bits}
+use Rattle.qz_driver.proofs.Growing.{through}
+use Rattle.qz_driver.proofs.Walks.{appended_to_none}
+use Rattle.qz_driver.proofs.circuit.all_rests.Goals as goal
+
+pub returns-clause-extends : goal.returns-clause-extends
+returns-clause-extends c = through _ _ _ c.in_ok-enter.ensures.extends c.in_ok-moves.ensures.extends
+
+pub returns-clause-means : goal.returns-clause-means
+returns-clause-means c = λ nets reads.
+    appended_to_none _ _ _ _ _ (ap (rests_as_bits nets) c.new-rests.ensures.items)
+    (c.in_ok-enter.ensures.means nets (c.in_ok-moves.ensures.extends.reads nets reads)) (c.in_ok-moves.ensures.means nets reads)

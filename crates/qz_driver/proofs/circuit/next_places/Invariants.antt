@@ -1,0 +1,13 @@
+use Rattle.std.proofs.Common.{◌≡◌, drop, length}
+use Rattle.qz_driver.specs.Verilog.{Nets}
+use Rattle.qz_driver.specs.WireTable.{Reads, Extends}
+use Rattle.qz_driver.specs.Driven.{rests_as_bits, AreDrivenAfter}
+use Rattle.qz_driver.proofs.circuit.next_places.Given as goal
+
+abbrev pub invariant-loop-rest : goal.invariant-loop-rest
+invariant-loop-rest l = record {
+  extends : Extends l.fn.wires l.wires;
+  count : length l.nexts.items ≡ l.places;
+  rest : (nets : Nets) → Reads nets l.wires →
+      AreDrivenAfter nets (rests_as_bits nets (drop l.rest-index l.rests)) l.nexts.items (rests_as_bits nets l.rests);
+}

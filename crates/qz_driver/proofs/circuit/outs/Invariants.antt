@@ -1,0 +1,13 @@
+use Rattle.std.proofs.Common.{◌≡◌, drop, length}
+use Rattle.qz_driver.specs.Verilog.{Nets}
+use Rattle.qz_driver.specs.WireTable.{Reads, Extends}
+use Rattle.qz_driver.specs.Driven.{writes_as_bits, AreDrivenAfter}
+use Rattle.qz_driver.proofs.circuit.outs.Given as goal
+
+abbrev pub invariant-loop-write : goal.invariant-loop-write
+invariant-loop-write l = record {
+  extends : Extends l.fn.wires l.wires;
+  count : length l.outs.items ≡ l.count;
+  rest : (nets : Nets) → Reads nets l.wires →
+      AreDrivenAfter nets (writes_as_bits nets (drop l.write-index l.writes)) l.outs.items (writes_as_bits nets l.writes);
+}

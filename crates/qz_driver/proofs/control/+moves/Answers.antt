@@ -1,0 +1,30 @@
+use Rattle.std.proofs.Common.{◌∙◌}
+use Rattle.qz_driver.specs.Mirror.{mirror_of}
+use Rattle.qz_driver.proofs.Growing.{through}
+use Rattle.qz_driver.proofs.Walks.{move_step, appended_again}
+use Rattle.qz_driver.proofs.control.+moves.Goals as goal
+
+pub moves_on-loop-part-preserved : goal.moves_on-loop-part-preserved
+moves_on-loop-part-preserved t c = record {
+  extends = through _ _ _ c.loop-part.invariant.extends
+      (through _ _ _ c.in_ok-moves.ensures.extends (through _ _ _ c.in_ok-enter.ensures.extends c.in_ok-so_far-2.ensures.extends));
+  rest = λ nets reads.
+      let at_enter = c.in_ok-so_far-2.ensures.extends.reads nets reads in
+      let at_moves = c.in_ok-enter.ensures.extends.reads nets at_enter in
+      move_step c.args.parts.now c.loop-part.part-index c.part-item.result c.loop-part-test.true c.part-item.is nets.registers _ _ _ _ _
+      (c.in_ok-moves.ensures.means nets at_moves) (c.in_ok-enter.ensures.means nets at_enter) (c.in_ok-so_far-2.ensures.means nets reads)
+      ∙ c.loop-part.invariant.rest nets (c.in_ok-moves.ensures.extends.reads nets at_moves);
+}
+
+pub moves_round-returns-clause-extends : goal.moves_round-returns-clause-extends
+moves_round-returns-clause-extends t c =
+    through _ _ _ c.in_ok-moves.ensures.extends (through _ _ _ c.in_ok-turns.ensures.extends c.in_ok-enter.ensures.extends)
+
+pub moves_round-returns-clause-means : goal.moves_round-returns-clause-means
+moves_round-returns-clause-means t c = λ nets reads.
+    let at_turns = c.in_ok-enter.ensures.extends.reads nets reads in
+    let at_moves = c.in_ok-turns.ensures.extends.reads nets at_turns in
+    let turns = c.in_ok-turns.ensures.means nets at_turns in
+    let moved = c.in_ok-moves.ensures.means nets at_moves in
+    let entered = c.in_ok-enter.ensures.means nets reads in
+    appended_again _ _ _ _ (mirror_of c.args.body.now).enter _ _ moved entered turns

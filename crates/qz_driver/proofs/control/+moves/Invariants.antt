@@ -1,0 +1,14 @@
+use Rattle.std.proofs.Common.{◌≡◌, ◌++◌, map, drop, false}
+use Rattle.qz_driver.specs.Verilog.{Nets, bit_at}
+use Rattle.qz_driver.specs.WireTable.{Reads, Extends}
+use Rattle.qz_driver.specs.Driven.{rests_as_bits}
+use Rattle.qz_driver.specs.Mirror.{mirror_of, move_all}
+use Rattle.qz_driver.proofs.control.+moves.Given as goal
+
+abbrev pub invariant-moves_on-loop-part : goal.invariant-moves_on-loop-part
+invariant-moves_on-loop-part l = record {
+  extends : Extends l.fn.wires l.wires;
+  rest : (nets : Nets) → Reads nets l.wires →
+      rests_as_bits nets l.rests.items ++ move_all (map mirror_of (drop l.part-index l.parts)) nets.registers (bit_at nets l.so_far)
+      ≡ rests_as_bits nets l.fn.rests.items ++ move_all (map mirror_of l.parts) nets.registers false;
+}

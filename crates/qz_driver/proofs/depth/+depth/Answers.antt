@@ -1,0 +1,37 @@
+use Rattle.std.proofs.Common.{◌∙◌, ap, ◌&&◌}
+use Rattle.qz_driver.specs.Verilog.{bit_at}
+use Rattle.qz_driver.specs.Mirror.{mirror_of}
+use Rattle.qz_driver.proofs.Growing.{through}
+use Rattle.qz_driver.proofs.Walks.{resume_step, appended_again}
+use Rattle.qz_driver.proofs.depth.+depth.Goals as goal
+
+pub depth_of_all-loop-part-preserved : goal.depth_of_all-loop-part-preserved
+depth_of_all-loop-part-preserved t c = record {
+  extends = through _ _ _ c.loop-part.invariant.extends
+      (through _ _ _ c.in_ok-depth.ensures.extends
+      (through _ _ _ c.and.ensures.extends (through _ _ _ c.in_ok-surface.ensures.extends c.in_ok-so_far-2.ensures.extends)));
+  rest = λ nets reads.
+      let at_surface = c.in_ok-so_far-2.ensures.extends.reads nets reads in
+      let at_start = c.in_ok-surface.ensures.extends.reads nets at_surface in
+      let at_depth = c.and.ensures.extends.reads nets at_start in
+      resume_step c.args.parts.now c.loop-part.part-index c.part-item.result c.loop-part-test.true c.part-item.is nets.registers _ _ _ _ _ _ _
+      (c.in_ok-depth.ensures.means nets at_depth) (c.in_ok-start.ensures.means nets at_start)
+      (c.in_ok-surface.ensures.means nets at_surface) (c.in_ok-so_far-2.ensures.means nets reads)
+      ∙ c.loop-part.invariant.rest nets (c.in_ok-depth.ensures.extends.reads nets at_depth);
+}
+
+pub depth_of_loop-returns-clause-extends : goal.depth_of_loop-returns-clause-extends
+depth_of_loop-returns-clause-extends t c =
+    through _ _ _ c.in_ok-depth.ensures.extends
+    (through _ _ _ c.in_ok-turns.ensures.extends (through _ _ _ c.and.ensures.extends c.in_ok-surface.ensures.extends))
+
+pub depth_of_loop-returns-clause-means : goal.depth_of_loop-returns-clause-means
+depth_of_loop-returns-clause-means t c = λ nets reads.
+    let at_again = c.in_ok-surface.ensures.extends.reads nets reads in
+    let at_turns = c.and.ensures.extends.reads nets at_again in
+    let at_depth = c.in_ok-turns.ensures.extends.reads nets at_turns in
+    let again = c.in_ok-again.ensures.means nets at_again in
+    let turns = c.in_ok-turns.ensures.means nets at_turns in
+    appended_again _ _ _ _ (mirror_of c.args.body.now).start _ _
+    (c.in_ok-depth.ensures.means nets at_depth) (c.in_ok-surface.ensures.means nets reads)
+    (again ∙ ap (λ b. bit_at nets c.args.act && b) turns)

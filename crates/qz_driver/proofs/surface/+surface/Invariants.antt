@@ -1,0 +1,14 @@
+use Rattle.std.proofs.Common.{◌≡◌, ◌++◌, map, drop}
+use Rattle.qz_driver.specs.Verilog.{Nets, bit_at}
+use Rattle.qz_driver.specs.WireTable.{Reads, Extends}
+use Rattle.qz_driver.specs.Driven.{writes_as_bits}
+use Rattle.qz_driver.specs.Mirror.{mirror_of, start_all}
+use Rattle.qz_driver.proofs.surface.+surface.Given as goal
+
+abbrev pub invariant-surface_of_all-loop-part : goal.invariant-surface_of_all-loop-part
+invariant-surface_of_all-loop-part l = record {
+  extends : Extends l.fn.wires l.wires;
+  rest : (nets : Nets) → Reads nets l.wires →
+      writes_as_bits nets l.writes.items ++ start_all (map mirror_of (drop l.part-index l.parts)) (bit_at nets l.start)
+      ≡ writes_as_bits nets l.fn.writes.items ++ start_all (map mirror_of l.parts) (bit_at nets l.fn.start);
+}

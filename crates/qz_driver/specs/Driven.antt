@@ -1,0 +1,30 @@
+-- What the walk for a circuit appends, read as bits.
+use Rattle.std.specs.Prelude.{ℕ, ◌≡◌, ◌<◌, ◌==◌, ◌&&◌, ◌||◌, List, map, length, slice_index_or}
+use Rattle.qz_driver.specs.declared.parts.DrivenWrite.{DrivenWrite}
+use Rattle.qz_driver.specs.declared.parts.DrivenPlace.{DrivenPlace}
+use Rattle.qz_driver.specs.declared.verilog.Ref.{Ref}
+use Rattle.qz_driver.specs.Mirror.{Bits, is_driven}
+use Rattle.qz_driver.specs.Verilog.{Nets, bit_at}
+
+-- the places where control rests, each with whether it does
+abbrev pub rests_as_bits : Nets → List DrivenPlace → Bits
+rests_as_bits nets rests = map (λ rest. (rest.place, bit_at nets rest.when)) rests
+
+-- the outputs that are written, each with whether it is driven
+abbrev pub writes_as_bits : Nets → List DrivenWrite → Bits
+writes_as_bits nets writes = map (λ write. (write.output, bit_at nets write.guard && bit_at nets write.value)) writes
+
+-- nets by number, each true exactly where some entry of its number is
+abbrev pub AreDriven : Nets → Bits → List Ref → Type 0
+AreDriven nets bits row = (k : ℕ) (d : Ref) → k < length row → bit_at nets (slice_index_or row k d) ≡ is_driven bits k
+
+-- the same, where nets that stand so far are driven by the entries that are left
+abbrev pub AreDrivenAfter : Nets → Bits → List Ref → Bits → Type 0
+AreDrivenAfter nets left row bits =
+    (k : ℕ) (d : Ref) → k < length row → (bit_at nets (slice_index_or row k d) || is_driven left k) ≡ is_driven bits k
+
+-- one more net that drives a number's
+abbrev pub IsDrivenMore : Nets → ℕ → Ref → List Ref → List Ref → Type 0
+IsDrivenMore nets number more old new =
+    (k : ℕ) (d : Ref) → k < length new
+    → bit_at nets (slice_index_or new k d) ≡ (((number == k) && bit_at nets more) || bit_at nets (slice_index_or old k d))
