@@ -205,7 +205,7 @@ pub resumes_as_its_bits : (outputs : ℕ) (s : Stmt) → IsTrue (is_first output
 resumes_as_its_bits outputs s first different scene = ((walked scene scene outputs s first).1 different).resumes
 
 -- a scene by which nothing is known
-no_scene : Scene
+pub no_scene : Scene
 no_scene = record {
   class_of = λ x. Event;
   type_of = λ x. ty.Bool;

@@ -10,15 +10,16 @@ use Rattle.qz_driver.specs.Mirror.{mirror_of}
 use Rattle.qz_driver.specs.FirstLanguage.{IsFirst}
 use Rattle.qz_driver.specs.Does.{values_of}
 use Rattle.qz_driver.specs.BitRuns.{BitState, unstarted, bit_rows, next_state, RunsAs}
-use Rattle.qz_driver.proofs.FirstSteps.{Follows, follows-initial, step_there, follows_there, step_only}
+use Rattle.qz_driver.proofs.FirstSteps.{Follows, follows-initial, step_follows, step_only}
 
 module _ (m : Module) (first : IsFirst m) where
   runs_there : (steps : ℕ) (c : Configuration) (state : BitState) → Follows m first c state
       → (passed : List Configuration) × RunsFrom (program_of m) c (replicate steps []) (values_of (bit_rows (length m.formals) (mirror_of m.body) state steps)) passed
   runs_there zero c state h = ([], tt)
   runs_there (suc steps) c state h =
-      let rest = runs_there steps _ (next_state (mirror_of m.body) state) (follows_there m first c state h) in
-      (_ ∷ rest.0, (step_there m first c state h, rest.1))
+      let step = step_follows m first c state h in
+      let rest = runs_there steps step.0 (next_state (mirror_of m.body) state) step.2 in
+      (step.0 ∷ rest.0, (step.1, rest.1))
 
   only_runs : (steps : ℕ) (c : Configuration) (state : BitState) → Follows m first c state → (outs : List (List Value)) (passed : List Configuration)
       → RunsFrom (program_of m) c (replicate steps []) outs passed → outs ≡ values_of (bit_rows (length m.formals) (mirror_of m.body) state steps)

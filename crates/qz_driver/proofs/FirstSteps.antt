@@ -1,5 +1,5 @@
 -- The macro steps of a program of the first language are those of its bits.
-use Rattle.std.proofs.Common.{◌≡◌, ℕ, zero, suc, ◌+◌, Bool, true, false, List, [], ◌∷◌, ◌++◌, map, length, slice_get, Option, Some, None, refl, sym, ap, ap₂, subst, ◌∙◌, append-nil, if◌then◌else◌}
+use Rattle.std.proofs.Common.{◌≡◌, ℕ, zero, suc, ◌+◌, Bool, true, false, not, ◌||◌, List, [], ◌∷◌, ◌++◌, map, length, slice_get, Option, Some, None, refl, sym, ap, ap₂, subst, ◌∙◌, append-nil, if◌then◌else◌}
 use Rattle.std.specs.Option.{option_map_or}
 use Rattle.std.specs.List.{AllByRecursion, list_all, range_with_len}
 use Rattle.std.proofs.lemmas.Bool.{and_parts, false≢true}
@@ -25,6 +25,7 @@ use Rattle.qz_syntax.specs.declared.places.Place.{Place}
 use Rattle.qz_syntax.specs.declared.places.Place.TheVariants as place
 use Rattle.qz_syntax.specs.declared.places.Residual.{Residual}
 use Rattle.qz_syntax.specs.declared.places.Store.{Store}
+use Rattle.qz_syntax.specs.Numbers.{places_of}
 use Rattle.qz_meaning.specs.Instances.{formal_instance}
 use Rattle.qz_meaning.specs.Scenes.{Scene, root, contains, new_store, store_from}
 use Rattle.qz_meaning.specs.Behaviors.{Met}
@@ -38,12 +39,13 @@ use Rattle.qz_meaning.specs.Verdicts.{verdict}
 use Rattle.qz_driver.specs.Mirror.{Bits, Mirror, mirror_of, is_driven}
 use Rattle.qz_driver.specs.FirstLanguage.{is_event_output, IsFirst}
 use Rattle.qz_driver.specs.FirstWalk.{places_at, CanRest}
-use Rattle.qz_driver.specs.FirstResumes.{AreWritesOf, ResumesAs, IsStill, AreDifferent}
-use Rattle.qz_driver.specs.BitRuns.{BitState, unstarted, driven_bits, bit_row, next_state}
+use Rattle.qz_driver.specs.FirstResumes.{AreWritesOf, ResumesAs, IsStill, IsControl, AreDifferent}
+use Rattle.qz_driver.specs.BitRuns.{moved_bits, BitState, unstarted, driven_bits, bit_row, next_state}
+use Rattle.qz_driver.proofs.BitLemmas.{or-false, is_driven-append}
 use Rattle.qz_driver.proofs.PlaceLemmas.{range-different}
 use Rattle.qz_driver.proofs.StartMirror.{Started}
 use Rattle.qz_driver.proofs.ResumeSequences.{Resumed}
-use Rattle.qz_driver.proofs.FirstResuming.{walked}
+use Rattle.qz_driver.proofs.FirstResuming.{no_scene, walked}
 use Rattle.qz_driver.proofs.BitVerdicts.{verdict_driven, verdict_undelayed, settled_driven}
 
 all_from : {A : Type 0} (P : A → Type 0) → ((x : A) → P x) → (xs : List A) → AllByRecursion P xs
@@ -160,10 +162,12 @@ module _ (m : Module) (first : IsFirst m) where
 
   -- control is where the state says
   abbrev pub IsPlace : Place → BitState → Type 0
-  IsPlace place.NotStarted state = state.started ≡ false
+  IsPlace place.NotStarted state = (state.started ≡ false) × IsControl state.control (places_of m.body) []
   IsPlace (place.Rest r) state =
-      (state.started ≡ true) × ((scene : Scene) → (behavior scene m.body).fits r ≡ true) × ((k : ℕ) → state.control k ≡ contains (resting_places r) k)
-  IsPlace place.Ended state = (state.started ≡ true) × ((k : ℕ) → state.control k ≡ false)
+      (state.started ≡ true)
+      × ((scene : Scene) → (behavior scene m.body).fits r ≡ true)
+      × IsControl state.control (places_of m.body) (resting_places r)
+  IsPlace place.Ended state = (state.started ≡ true) × IsControl state.control (places_of m.body) []
 
   -- the configuration is the state's, and nothing is delayed
   pub record Follows (c : Configuration) (state : BitState) : Type 0 where
@@ -172,8 +176,8 @@ module _ (m : Module) (first : IsFirst m) where
 
   place_after : (inside : Option Residual) (state : BitState) → state.started ≡ true → ((scene : Scene) → CanRest (behavior scene m.body) inside)
       → ((k : ℕ) → contains (places_at inside) k ≡ state.control k) → IsPlace (rest_or_end inside) state
-  place_after None state h fits at = (h, λ k. sym (at k))
-  place_after (Some r) state h fits at = (h, fits, λ k. sym (at k))
+  place_after None state h fits at = (h, λ k inside. sym (at k))
+  place_after (Some r) state h fits at = (h, fits, λ k inside. sym (at k))
 
   -- the walk from a place is as the state's bits say
   record WalksAs (scene : Scene) (from : Place) (state : BitState) : Type 0 where
@@ -184,16 +188,16 @@ module _ (m : Module) (first : IsFirst m) where
   walks_as : (scene : Scene) (from : Place) (state : BitState) → IsPlace from state → WalksAs scene from state
   walks_as scene place.NotStarted state h = record {
     writes = subst (λ some. AreWritesOf ((behavior scene m.body).start root (Known (truth_of true)) mark.Zero) some)
-        (sym (ap (λ b. if b then bits.resume state.control true else bits.start true) h))
+        (sym (ap (λ b. if b then bits.resume state.control true else bits.start true) h.0))
         (record { same = bits.start true; are = (started scene scene).starts.writes root true mark.Zero; drive = λ output. refl });
     met = (started scene scene).starts.meets mark.Zero;
     next = place_after ((behavior scene m.body).rest root mark.Zero) (next_state bits state) refl (λ other. (started scene other).fits root mark.Zero)
         (λ k. (started scene scene).starts.rests root mark.Zero k
-        ∙ ap (λ some. is_driven some k) (sym (ap (λ b. if b then bits.move state.control else bits.enter true) h)));
+        ∙ ap (λ some. is_driven some k) (sym (ap (λ b. if b then bits.move state.control else bits.enter true) h.0)));
   }
   walks_as scene (place.Rest r) state h =
       let here : ResumesAs (behavior scene m.body) bits state.control r =
-      (resumed scene scene).resumes state.control r (h.1 scene) (λ k inside. h.2 k) in
+      (resumed scene scene).resumes state.control r (h.1 scene) h.2 in
       record {
         writes = subst (λ some. AreWritesOf ((behavior scene m.body).resume root r (Known (truth_of true))) some)
             (sym (ap (λ b. if b then bits.resume state.control true else bits.start true) h.0)) (here.writes root true);
@@ -202,7 +206,7 @@ module _ (m : Module) (first : IsFirst m) where
             (λ k. here.rests root k ∙ ap (λ some. is_driven some k) (sym (ap (λ b. if b then bits.move state.control else bits.enter true) h.0)));
       }
   walks_as scene place.Ended state h =
-      let still : IsStill bits state.control = (resumed scene scene).still state.control (λ k inside. h.1 k) in
+      let still : IsStill bits state.control = (resumed scene scene).still state.control h.1 in
       record {
         writes = record {
           same = [];
@@ -213,14 +217,17 @@ module _ (m : Module) (first : IsFirst m) where
               );
         };
         met = refl;
-        next = (refl, λ k. ap (λ some. is_driven some k) (ap (λ b. if b then bits.move state.control else bits.enter true) h.0) ∙ still.unmoved k);
+        next = (refl, λ k inside. ap (λ some. is_driven some k) (ap (λ b. if b then bits.move state.control else bits.enter true) h.0) ∙ still.unmoved k);
       }
 
-  pub follows-initial : Follows (initial program) unstarted
-  follows-initial = record {
+  pub initial_follows : (state : BitState) → state.started ≡ false → IsControl state.control (places_of m.body) [] → Follows (initial program) state
+  initial_follows state h away = record {
     outputs_are = ap (λ (f : ℕ → Store). map f outputs) (fun_ext (λ n. ap new_store (type_is n)));
-    place_is = refl;
+    place_is = (h, away);
   }
+
+  pub follows-initial : Follows (initial program) unstarted
+  follows-initial = initial_follows unstarted refl (λ k inside. refl)
 
   met_is : (c : Configuration) (state : BitState) → Follows c state → (env : Environment) → step_met program c env ≡ map output_met outputs
   met_is c state h env =
@@ -266,7 +273,7 @@ module _ (m : Module) (first : IsFirst m) where
   }
 
   -- there is a step, with the row of the bits
-  pub step_there : (c : Configuration) (state : BitState) → Follows c state
+  step_there : (c : Configuration) (state : BitState) → Follows c state
       → IsStep program c [] (map truth_of (bit_row count bits state)) (next_configuration program c (values_by (driven_bits bits state)))
   step_there c state h = record {
     values = env;
@@ -286,10 +293,15 @@ module _ (m : Module) (first : IsFirst m) where
       env : Environment
       env = values_by (driven_bits bits state)
 
-  pub follows_there : (c : Configuration) (state : BitState) → Follows c state
+  follows_there : (c : Configuration) (state : BitState) → Follows c state
       → Follows (next_configuration program c (values_by (driven_bits bits state))) (next_state bits state)
   follows_there c state h =
       follows_next c state h (values_by (driven_bits bits state)) (all_from (λ n. (values_by (driven_bits bits state)).later (formal_instance n) ≡ later.Absent) (λ n. refl) outputs)
+
+  -- there is a step from a configuration that the state is of, to one that the next state is of
+  pub step_follows : (c : Configuration) (state : BitState) → Follows c state
+      → (next : Configuration) × IsStep program c [] (map truth_of (bit_row count bits state)) next × Follows next (next_state bits state)
+  step_follows c state h = (next_configuration program c (values_by (driven_bits bits state)), step_there c state h, follows_there c state h)
 
   settled_at : (c : Configuration) (state : BitState) → Follows c state → (out : List Value) (next : Configuration) (s : IsStep program c [] out next)
       → AllByRecursion (λ n. IsSettledAt program (step_writes program c s.values) s.values (output_met n)) outputs
@@ -313,3 +325,45 @@ module _ (m : Module) (first : IsFirst m) where
         (all_so (λ n. IsSettledAt program (step_writes program c s.values) s.values (output_met n)) (λ n. s.values.later (formal_instance n) ≡ later.Absent)
         (λ n k. k.later ∙ undelayed c state h s.values n) outputs (settled_at c state h out next s))),
   )
+
+  -- what isn't started rests nowhere
+  still_before : (c : Configuration) (state : BitState) → Follows c state → state.started ≡ false → IsStill bits state.control
+  still_before c state h e = by_place c.place h.place_is
+    where
+      by_place : (from : Place) → IsPlace from state → IsStill bits state.control
+      by_place place.NotStarted k = (resumed no_scene no_scene).still state.control k.1
+      by_place (place.Rest r) k = absurd (false≢true (sym e ∙ k.0))
+      by_place place.Ended k = absurd (false≢true (sym e ∙ k.0))
+
+  -- before the start nothing is resumed, and after it nothing is started: both can be joined
+  pub driven_by_both : (c : Configuration) (state : BitState) → Follows c state → (n : ℕ)
+      → is_driven (bits.start (not state.started) ++ bits.resume state.control true) n ≡ is_driven (driven_bits bits state) n
+  driven_by_both c state h n =
+      is_driven-append (bits.start (not state.started)) (bits.resume state.control true) n ∙ by_started state.started refl
+    where
+      by_started : (b : Bool) → state.started ≡ b
+          → (is_driven (bits.start (not state.started)) n || is_driven (bits.resume state.control true) n) ≡ is_driven (driven_bits bits state) n
+      by_started true e = rw e (ap (λ b. b || is_driven (bits.resume state.control true) n) ((started no_scene no_scene).undriven n))
+      by_started false e = rw e
+          (ap (λ b. is_driven (bits.start true) n || b) ((still_before c state h e).undriven true n) ∙ or-false (is_driven (bits.start true) n))
+
+  pub moved_by_both : (c : Configuration) (state : BitState) → Follows c state → (n : ℕ)
+      → is_driven (bits.enter (not state.started) ++ bits.move state.control) n ≡ is_driven (moved_bits bits state) n
+  moved_by_both c state h n =
+      is_driven-append (bits.enter (not state.started)) (bits.move state.control) n ∙ by_started state.started refl
+    where
+      by_started : (b : Bool) → state.started ≡ b
+          → (is_driven (bits.enter (not state.started)) n || is_driven (bits.move state.control) n) ≡ is_driven (moved_bits bits state) n
+      by_started true e = rw e (ap (λ b. b || is_driven (bits.move state.control) n) ((started no_scene no_scene).unentered n))
+      by_started false e = rw e
+          (ap (λ b. is_driven (bits.enter true) n || b) ((still_before c state h e).unmoved n) ∙ or-false (is_driven (bits.enter true) n))
+
+  -- what is followed is told by the places alone
+  pub follows_alike : (c : Configuration) (state same : BitState) → Follows c state → same.started ≡ state.started
+      → ((k : ℕ) → contains (places_of m.body) k ≡ true → same.control k ≡ state.control k) → Follows c same
+  follows_alike c state same h e f = record { outputs_are = h.outputs_are; place_is = alike c.place h.place_is }
+    where
+      alike : (from : Place) → IsPlace from state → IsPlace from same
+      alike place.NotStarted k = (e ∙ k.0, λ n inside. f n inside ∙ k.1 n inside)
+      alike (place.Rest r) k = (e ∙ k.0, k.1, λ n inside. f n inside ∙ k.2 n inside)
+      alike place.Ended k = (e ∙ k.0, λ n inside. f n inside ∙ k.1 n inside)

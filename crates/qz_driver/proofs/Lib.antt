@@ -12,6 +12,8 @@ pub mod FirstResuming
 pub mod BitVerdicts
 pub mod FirstSteps
 pub mod FirstRuns
+pub mod SettleLemmas
+pub mod ClockRuns
 pub mod Driving
 mod ReadingLemmas
 mod GrammarLemmas
@@ -19,3 +21,4 @@ mod FormalLemmas
 mod SourceLemmas
 pub mod Implementing
 mod InstantLemmas
+pub mod DoingPrograms

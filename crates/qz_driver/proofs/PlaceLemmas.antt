@@ -70,6 +70,14 @@ pub range-different : (from len : ℕ) → AreDifferent (range_with_len from len
 range-different from zero = tt
 range-different from (suc len) = (below_range (from + 1) len from (omega arith), range-different (from + 1) len)
 
+-- what is among numbers that count up is below their end
+pub in_range : (from len n : ℕ) → contains (range_with_len from len) n ≡ true → n < from + len
+in_range from zero n h = absurd (false≢true h)
+in_range from (suc len) n h = elim (or_cases (from == n) (contains (range_with_len (from + 1) len) n) h) [
+  | inl is ↦ let e : from ≡ n = eqb-true from n is in omega arith
+  | inr there ↦ let later : n < from + 1 + len = in_range (from + 1) len n there in omega arith
+]
+
 -- a residual is what it is taken apart into
 pub is-At : (r : Residual) (n : ℕ) → out-Residual r ≡ Residual-F.At n → r ≡ At n
 is-At r n h = sym (roll-out-Residual r) ∙ ap roll-Residual h ∙ rolls-At n

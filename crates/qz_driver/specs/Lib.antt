@@ -11,6 +11,7 @@ pub mod FirstWalk
 pub mod FirstResumes
 pub mod BitRuns
 pub mod Verilog
+pub mod VerilogLaws
 pub mod Does
 pub mod VerilogText
 pub mod WireTable

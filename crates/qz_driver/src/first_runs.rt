@@ -13,6 +13,10 @@ ghost use Rattle.qz_driver.specs.FirstLanguage.{is_first, IsFirst};
 ghost use Rattle.qz_driver.specs.FirstWalk.{StartsAs};
 ghost use Rattle.qz_driver.specs.FirstResumes.{AreDifferent, IsControl, ResumesAs, IsStill};
 ghost use Rattle.qz_driver.specs.BitRuns.{RunsAs};
+ghost use Rattle.qz_driver.specs.declared.verilog.VModule.{VModule};
+ghost use Rattle.qz_driver.specs.Verilog.{IsValid};
+ghost use Rattle.qz_driver.specs.Implements.{Implements};
+ghost use Rattle.qz_driver.specs.Does.{DoesProgram};
 
 /// A start of a statement of the first language is as its bits say.
 pub fn starts_as_its_bits()
@@ -37,4 +41,9 @@ pub fn is_still_where_control_is_away()
 /// run with others.
 pub fn runs_as_its_bits()
     ensures { (m : Module) → IsFirst m → RunsAs m }
+{}
+
+/// A valid Verilog module that implements a module of the first language does its program.
+pub fn an_implementation_does_the_program()
+    ensures { (v : VModule) (m : Module) → IsFirst m → IsValid v → Implements v m → DoesProgram v m }
 {}

@@ -18,6 +18,7 @@ mod surface;
 mod tests;
 mod typing;
 mod verilog;
+pub mod verilog_laws;
 mod vtext;
 mod wires;
 mod words;

@@ -1,0 +1,153 @@
+-- Clocks that do what the bits say have the runs of the program.
+use Rattle.std.proofs.Common.{◌≡◌, ℕ, zero, suc, ◌+◌, ◌<◌, Bool, true, false, not, ◌++◌, List, [], ◌∷◌, map, length, replicate, slice_get, Some, refl, sym, ap, ap₂, subst, ◌∙◌, arith}
+use Rattle.std.specs.Option.{option_map_or}
+use Rattle.std.specs.List.{range_with_len}
+use mathlib.Core.Path.{fun_ext}
+use Rattle.qz_values.specs.declared.Value.{Value}
+use Rattle.qz_values.specs.Values.{no, is_yes, truth_of}
+use Rattle.qz_syntax.specs.declared.modules.Module.{Module}
+use Rattle.qz_syntax.specs.Numbers.{places_of}
+use Rattle.qz_meaning.specs.Scenes.{contains}
+use Rattle.qz_meaning.specs.Programs.{program_of}
+use Rattle.qz_meaning.specs.Settling.{Configuration}
+use Rattle.qz_meaning.specs.MacroSteps.{initial, IsStep}
+use Rattle.qz_meaning.specs.Runs.{RunsFrom}
+use Rattle.qz_driver.specs.declared.verilog.VModule.{VModule}
+use Rattle.qz_driver.specs.Mirror.{Bits, Control, mirror_of, is_driven}
+use Rattle.qz_driver.specs.FirstLanguage.{IsFirst}
+use Rattle.qz_driver.specs.Verilog.{Nets, bit_at, IsClock, ClocksFrom, BeginsWith, IsValid}
+use Rattle.qz_driver.specs.VerilogLaws.{SettlesOnce}
+use Rattle.qz_driver.specs.Does.{port_of, values_of, DoesProgram}
+use Rattle.qz_driver.specs.BitRuns.{BitState, bit_row, next_state}
+use Rattle.qz_driver.proofs.SettleLemmas.{settles_once}
+use Rattle.qz_driver.proofs.PlaceLemmas.{in_range}
+use Rattle.qz_driver.proofs.FirstSteps.{Follows, initial_follows, step_follows, step_only, driven_by_both, moved_by_both, follows_alike}
+
+-- there is a clock, whatever the registers hold
+clock_there : (v : VModule) → IsValid v → (registers : Control) → (outs : List Bool) × (next : Control) × IsClock v registers outs next
+clock_there v valid registers = (
+  map (bit_at nets) v.outs,
+  λ number. option_map_or (bit_at nets) (slice_get v.nexts number) false,
+  record {
+    wires = once.wires;
+    settles = once.settles;
+    outs_are = refl;
+    takes = λ number source h. ap (λ some. option_map_or (bit_at nets) some false) h;
+  },
+)
+  where
+    once : SettlesOnce v registers
+    once = settles_once v valid registers
+
+    nets : Nets
+    nets = record { registers = registers; wires = once.wires }
+
+clocks_there : (v : VModule) → IsValid v → (steps : ℕ) (registers : Control) → (rows : List (List Bool)) × ClocksFrom v registers rows × (length rows ≡ steps)
+clocks_there v valid zero registers = ([], tt, refl)
+clocks_there v valid (suc steps) registers =
+    let clock = clock_there v valid registers in
+    let rest = clocks_there v valid steps clock.1 in
+    (clock.0 ∷ rest.0, (clock.1, clock.2, rest.1), ap suc rest.2)
+
+-- the registers as they begin
+abbrev first_registers : VModule → Control
+first_registers v number = option_map_or is_yes (slice_get v.regs number) false
+
+begins_there : (v : VModule) → BeginsWith v (first_registers v)
+begins_there v number value h = ap (λ some. option_map_or is_yes some false) h
+
+all_no : (places number : ℕ) → number < suc places → slice_get (replicate places no ++ no ∷ []) number ≡ Some no
+all_no zero zero h = refl
+all_no zero (suc number) h = absurd (grind arith)
+all_no (suc places) zero h = refl
+all_no (suc places) (suc number) h = all_no places number (omega arith)
+
+module _ (m : Module) (first : IsFirst m) (v : VModule) where
+  abbrev places : ℕ
+  places = length m.labels
+
+  abbrev both_writes : Control → Bits
+  both_writes registers = (mirror_of m.body).start (not (registers places)) ++ (mirror_of m.body).resume registers true
+
+  abbrev both_rests : Control → Bits
+  both_rests registers = (mirror_of m.body).enter (not (registers places)) ++ (mirror_of m.body).move registers
+
+  -- a clock does what the bits of a start and of a resume say together
+  pub record ClocksAs (registers : Control) (outs : List Bool) (next : Control) : Type 0 where
+    pub outs_are : outs ≡ map (is_driven (both_writes registers)) (range_with_len 0 (length m.formals))
+    pub rests : (place : ℕ) → place < places → next place ≡ is_driven (both_rests registers) place
+    pub started : next places ≡ true
+
+  -- a place of the body has a register
+  has_register : (place : ℕ) → contains (places_of m.body) place ≡ true → place < places
+  has_register place inside =
+      let below : place < 0 + places = in_range 0 places place (ap (λ numbers. contains numbers place) (sym first.places) ∙ inside) in
+      omega arith
+
+  abbrev state_of : Control → BitState
+  state_of registers = record { started = registers places; control = registers }
+
+  clock_row : (registers : Control) (outs : List Bool) (next : Control) (c : Configuration) → Follows m first c (state_of registers)
+      → ClocksAs registers outs next → outs ≡ bit_row (length m.formals) (mirror_of m.body) (state_of registers)
+  clock_row registers outs next c h clock =
+      clock.outs_are ∙ ap (λ (f : ℕ → Bool). map f (range_with_len 0 (length m.formals))) (fun_ext (driven_by_both m first c (state_of registers) h))
+
+  clock_follows : (registers : Control) (outs : List Bool) (next : Control) (c d : Configuration) → Follows m first c (state_of registers)
+      → ClocksAs registers outs next → Follows m first d (next_state (mirror_of m.body) (state_of registers)) → Follows m first d (state_of next)
+  clock_follows registers outs next c d h clock after =
+      follows_alike m first d (next_state (mirror_of m.body) (state_of registers)) (state_of next) after clock.started
+      (λ place inside.
+      clock.rests place (has_register place inside)
+      ∙ moved_by_both m first c (state_of registers) h place)
+
+  module _ (clocks_as : (registers : Control) (outs : List Bool) (next : Control) → IsClock v registers outs next → ClocksAs registers outs next) where
+    runs_there : (rows : List (List Bool)) (registers : Control) (c : Configuration) → Follows m first c (state_of registers) → ClocksFrom v registers rows
+        → (passed : List Configuration) × RunsFrom (program_of m) c (replicate (length rows) []) (values_of rows) passed
+    runs_there [] registers c h run = ([], tt)
+    runs_there (outs ∷ rows) registers c h run =
+        let clock = clocks_as registers outs run.0 run.1 in
+        let step = step_follows m first c (state_of registers) h in
+        let rest = runs_there rows run.0 step.0 (clock_follows registers outs run.0 c step.0 h clock step.2) run.2 in
+        (step.0 ∷ rest.0, (subst (λ row. IsStep (program_of m) c [] (map truth_of row) step.0) (sym (clock_row registers outs run.0 c h clock)) step.1, rest.1))
+
+    only_runs : (rows : List (List Bool)) (registers : Control) (c : Configuration) → Follows m first c (state_of registers) → ClocksFrom v registers rows
+        → (outs : List (List Value)) (passed : List Configuration) → RunsFrom (program_of m) c (replicate (length rows) []) outs passed → outs ≡ values_of rows
+    only_runs [] registers c h run [] [] others = refl
+    only_runs [] registers c h run [] (next ∷ passed) others = absurd others
+    only_runs [] registers c h run (out ∷ outs) passed others = absurd others
+    only_runs (row ∷ rows) registers c h run [] passed others = absurd others
+    only_runs (row ∷ rows) registers c h run (out ∷ outs) [] others = absurd others
+    only_runs (row ∷ rows) registers c h run (out ∷ outs) (next ∷ passed) others =
+        let clock = clocks_as registers row run.0 run.1 in
+        let step = step_only m first c (state_of registers) h out next others.0 in
+        ap₂ (λ (one : List Value) (more : List (List Value)). one ∷ more)
+        (step.0 ∙ ap (map truth_of) (sym (clock_row registers row run.0 c h clock)))
+        (only_runs rows run.0 next (clock_follows registers row run.0 c next h clock step.1) run.2 outs passed others.1)
+
+    module _ (begins : v.regs ≡ replicate places no ++ no ∷ []) where
+      follows_first : (registers : Control) → BeginsWith v registers → Follows m first (initial (program_of m)) (state_of registers)
+      follows_first registers h = initial_follows m first (state_of registers) (off places (omega arith))
+          (λ place inside. off place (below place (has_register place inside)))
+        where
+          off : (number : ℕ) → number < suc places → registers number ≡ false
+          off number below = h number no (ap (λ regs. slice_get regs number) begins ∙ all_no places number below)
+
+          below : (place : ℕ) → place < places → place < suc places
+          below place h = omega arith
+
+      pub does_program : v.name ≡ m.name → v.outputs ≡ map port_of m.formals → IsValid v → DoesProgram v m
+      does_program name outputs valid = record {
+        name = name;
+        outputs = outputs;
+        runs = λ steps.
+            let run = clocks_there v valid steps (first_registers v) in
+            let there = runs_there run.0 (first_registers v) (initial (program_of m)) (follows_first (first_registers v) (begins_there v)) run.1 in (
+              run.0,
+              (first_registers v, begins_there v, run.1),
+              run.2,
+              subst (λ n. (passed : List Configuration) × RunsFrom (program_of m) (initial (program_of m)) (replicate n []) (values_of run.0) passed) run.2 there,
+            );
+        only = λ steps rows outs count run others.
+            only_runs rows run.0 (initial (program_of m)) (follows_first run.0 run.1) run.2 outs others.0
+            (subst (λ n. RunsFrom (program_of m) (initial (program_of m)) (replicate n []) outs others.0) (sym count) others.1);
+      }
