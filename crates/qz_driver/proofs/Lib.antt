@@ -3,3 +3,4 @@ pub mod Growing
 pub mod Walks
 pub mod Driving
 pub mod Implementing
+pub mod Declaring

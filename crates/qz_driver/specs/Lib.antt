@@ -11,3 +11,4 @@ pub mod Does
 pub mod WireTable
 pub mod Driven
 pub mod Implements
+pub mod RestsBelow
