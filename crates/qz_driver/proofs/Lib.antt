@@ -22,3 +22,4 @@ mod SourceLemmas
 pub mod Implementing
 mod InstantLemmas
 pub mod DoingPrograms
+pub mod Declaring

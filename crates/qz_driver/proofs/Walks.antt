@@ -1,6 +1,9 @@
 -- One more member of a sequence, in the functions of the mirror over a list.
-use Rattle.std.proofs.Common.{◌≡◌, ℕ, ◌+◌, ◌<◌, Bool, ◌&&◌, List, [], ◌∷◌, ◌++◌, map, length, drop, get_or, ap, sym, ◌∙◌, append_assoc}
-use Rattle.std.proofs.lemmas.List.{at_drop_more}
+use Rattle.std.proofs.Common.{true, false, refl, true≢false, arith, ◌≡◌, ℕ, ◌+◌, ◌<◌, Bool, ◌&&◌, List, [], ◌∷◌, ◌++◌, map, length, drop, get_or, ap, sym, ◌∙◌, append_assoc}
+use Rattle.std.proofs.lemmas.List.{at_drop_more, get_or-map}
+use Rattle.std.proofs.lemmas.List.Folds.{list_all_at}
+use Rattle.std.proofs.Math.ListN.{length-map}
+use Rattle.qz_driver.specs.RestsBelow.{rests_below, all_rest_below}
 use Rattle.std.proofs.Math.Bool.{and_assoc}
 use Rattle.qz_syntax.specs.declared.statements.Stmt.{Stmt}
 use Rattle.qz_driver.specs.Mirror.{Bits, Control, mirror_of, all_at_once, start_all, enter_all, ended_after, ended_all, resume_all, move_all}
@@ -19,10 +22,25 @@ pub appended_again : (before mid after first : Bits) (second : Bool → Bits) (a
 appended_again before mid after first second a b mid_is after_is same =
     appended_twice before mid after first (second b) mid_is (after_is ∙ ap (λ c. mid ++ second c) same)
 
+-- where the places of all members are among the registers, so are those of each
+below_at : (registers : ℕ) (parts : List Stmt) (i : ℕ) (d : Stmt) → i < length parts → all_rest_below registers parts ≡ true
+    → rests_below registers (get_or parts i d) ≡ true
+below_at registers parts i d within below = by (rests_below registers (get_or parts i d)) refl
+  where
+    by : (b : Bool) → rests_below registers (get_or parts i d) ≡ b → rests_below registers (get_or parts i d) ≡ true
+    by true is = is
+    by false is =
+        let inside : i < length (map (rests_below registers) parts) = let e = length-map parts (rests_below registers) in omega arith in
+        absurd (true≢false (sym below
+        ∙ list_all_at (λ b. b) (map (rests_below registers) parts) i false inside (get_or-map (rests_below registers) parts i d false within ∙ is)))
+
 module _ (parts : List Stmt) (i : ℕ) (part : Stmt) (within : i < length parts) (is : part ≡ get_or parts i part) where
   -- the member at the index goes first in what is left
   pub next_member : {Y : Type 0} (F : List Stmt → Y) → F (drop i parts) ≡ F (part ∷ drop (i + 1) parts)
   next_member F = at_drop_more F parts i part within ∙ ap (λ p. F (p ∷ drop (i + 1) parts)) (sym is)
+
+  pub member_below : (registers : ℕ) → all_rest_below registers parts ≡ true → rests_below registers part ≡ true
+  member_below registers below = ap (rests_below registers) is ∙ below_at registers parts i part within below
 
   pub at_once_step : (ends here next : Bool) → here ≡ (mirror_of part).at_once → next ≡ (ends && here)
       → (next && all_at_once (map mirror_of (drop (i + 1) parts))) ≡ (ends && all_at_once (map mirror_of (drop i parts)))

@@ -3,8 +3,10 @@ use Rattle.std.specs.Prelude.{ℕ, ◌≡◌, ◌<◌, ◌==◌, ◌&&◌, ◌||
 use Rattle.qz_driver.specs.declared.parts.DrivenWrite.{DrivenWrite}
 use Rattle.qz_driver.specs.declared.parts.DrivenPlace.{DrivenPlace}
 use Rattle.qz_driver.specs.declared.verilog.Ref.{Ref}
+use Rattle.qz_driver.specs.declared.wires.Wires.{Wires}
 use Rattle.qz_driver.specs.Mirror.{Bits, is_driven}
 use Rattle.qz_driver.specs.Verilog.{Nets, bit_at}
+use Rattle.qz_driver.specs.WireTable.{Has, IsSound}
 
 -- the places where control rests, each with whether it does
 abbrev pub rests_as_bits : Nets → List DrivenPlace → Bits
@@ -28,3 +30,19 @@ abbrev pub IsDrivenMore : Nets → ℕ → Ref → List Ref → List Ref → Typ
 IsDrivenMore nets number more old new =
     (k : ℕ) (d : Ref) → k < length new
     → bit_at nets (slice_index_or new k d) ≡ (((number == k) && bit_at nets more) || bit_at nets (slice_index_or old k d))
+
+-- a sound table that has the nets of these places
+pub record DeclaresRests (registers : ℕ) (wires : Wires) (rests : List DrivenPlace) : Type 0 where
+  pub sound : IsSound registers wires
+  pub each : (k : ℕ) (d : DrivenPlace) → k < length rests → Has registers wires (slice_index_or rests k d).when
+
+-- and of these writes
+pub record DeclaresWrites (registers : ℕ) (wires : Wires) (writes : List DrivenWrite) : Type 0 where
+  pub sound : IsSound registers wires
+  pub guards : (k : ℕ) (d : DrivenWrite) → k < length writes → Has registers wires (slice_index_or writes k d).guard
+  pub values : (k : ℕ) (d : DrivenWrite) → k < length writes → Has registers wires (slice_index_or writes k d).value
+
+-- and of a row of nets
+pub record DeclaresRow (registers : ℕ) (wires : Wires) (row : List Ref) : Type 0 where
+  pub sound : IsSound registers wires
+  pub each : (k : ℕ) (d : Ref) → k < length row → Has registers wires (slice_index_or row k d)

@@ -17,3 +17,4 @@ pub mod VerilogText
 pub mod WireTable
 pub mod Driven
 pub mod Implements
+pub mod RestsBelow

@@ -21,6 +21,11 @@ pub record Has (registers : ℕ) (wires : Wires) (net : Ref) : Type 0 where
 pub record IsSound (registers : ℕ) (wires : Wires) : Type 0 where
   pub each : (number : ℕ) (right : Rhs) → slice_get (rights wires) number ≡ Some right → ReadsDeclared registers number right
 
+-- a table of which each right side reads registers and earlier wires alone, and one of its nets
+pub record Declares (registers : ℕ) (wires : Wires) (net : Ref) : Type 0 where
+  pub sound : IsSound registers wires
+  pub has : Has registers wires net
+
 -- what settles the new table settles the old one, which is no longer
 pub record Extends (old new : Wires) : Type 0 where
   pub reads : (nets : Nets) → Reads nets new → Reads nets old

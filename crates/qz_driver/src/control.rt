@@ -2,10 +2,12 @@
 //!
 //! The register of a place says that control rests there.
 
-ghost use Rattle.std.specs.Prelude.{◌≡◌, false, ◌&&◌, not, ◌++◌, List, [], ◌∷◌, map, IfOk, OnOk};
+ghost use Rattle.std.specs.Prelude.{◌≡◌, ℕ, true, false, ◌&&◌, not, ◌++◌, List, [], ◌∷◌, map, IfOk, OnOk};
 ghost use Rattle.qz_driver.specs.Verilog.{Nets, bit_at};
-ghost use Rattle.qz_driver.specs.WireTable.{Reads, Extends};
-ghost use Rattle.qz_driver.specs.Driven.{rests_as_bits};
+ghost use Rattle.qz_driver.specs.WireTable.{Reads, Extends, Has, IsSound, Declares};
+ghost use Rattle.qz_driver.specs.declared.wires.Wires.{Wires};
+ghost use Rattle.qz_driver.specs.RestsBelow.{rests_below, all_rest_below};
+ghost use Rattle.qz_driver.specs.Driven.{rests_as_bits, DeclaresRests};
 ghost use Rattle.qz_driver.specs.Mirror.{mirror_of, bit_of, all_at_once, enter_all, ended_after, ended_all, move_all, turns_by};
 
 use crate::parts::DrivenPlace;
@@ -18,6 +20,7 @@ use std::alloc::AllocError;
 pub fn value(wires: &mut Wires, e: &Expr) -> Result<Ref, AllocError>
     ensures extends { OnOk result (Extends wires.old wires.new) }
     ensures means { IfOk result (λ net. (nets : Nets) → Reads nets wires.new → bit_at nets net ≡ bit_of e.now) }
+    ensures declares { IfOk result (λ net. (registers : ℕ) → IsSound registers wires.old → Declares registers wires.new net) }
 {
     match e {
         Expr::Lit(v) => wires.constant(is_true(*v)),
@@ -31,6 +34,7 @@ pub fn ends_at_once(wires: &mut Wires, s: &Stmt) -> Result<Ref, AllocError>
     ensures extends { OnOk result (Extends wires.old wires.new) }
     ensures means { IfOk result (λ net. (nets : Nets) → Reads nets wires.new →
         bit_at nets net ≡ (mirror_of s.now).at_once) }
+    ensures declares { IfOk result (λ net. (registers : ℕ) → IsSound registers wires.old → Declares registers wires.new net) }
 {
     match s {
         Stmt::Pause(_) | Stmt::Loop(..) => wires.constant(false),
@@ -45,6 +49,7 @@ fn all_end_at_once(wires: &mut Wires, parts: &[Stmt]) -> Result<Ref, AllocError>
     ensures extends { OnOk result (Extends wires.old wires.new) }
     ensures means { IfOk result (λ net. (nets : Nets) → Reads nets wires.new →
         bit_at nets net ≡ all_at_once (map mirror_of parts.now)) }
+    ensures declares { IfOk result (λ net. (registers : ℕ) → IsSound registers wires.old → Declares registers wires.new net) }
 {
     let mut ends = wires.constant(true)?;
     for part in parts {
@@ -60,6 +65,7 @@ pub fn ends(wires: &mut Wires, s: &Stmt) -> Result<Ref, AllocError>
     ensures extends { OnOk result (Extends wires.old wires.new) }
     ensures means { IfOk result (λ net. (nets : Nets) → Reads nets wires.new →
         bit_at nets net ≡ (mirror_of s.now).ended nets.registers) }
+    ensures declares { IfOk result (λ net. (registers : ℕ) → rests_below registers s.now ≡ true → IsSound registers wires.old → Declares registers wires.new net) }
 {
     match s {
         Stmt::Pause(place) => Ok(Ref::Reg(u64::from(*place))),
@@ -75,6 +81,7 @@ fn leaves(wires: &mut Wires, body: &Stmt, condition: &Expr) -> Result<Ref, Alloc
     ensures extends { OnOk result (Extends wires.old wires.new) }
     ensures means { IfOk result (λ net. (nets : Nets) → Reads nets wires.new →
         bit_at nets net ≡ ((mirror_of body.now).ended nets.registers && not (bit_of condition.now))) }
+    ensures declares { IfOk result (λ net. (registers : ℕ) → rests_below registers body.now ≡ true → IsSound registers wires.old → Declares registers wires.new net) }
 {
     let body_ends = ends(wires, body)?;
     let again = value(wires, condition)?;
@@ -89,6 +96,7 @@ fn last_ends(wires: &mut Wires, parts: &[Stmt]) -> Result<Ref, AllocError>
     ensures extends { OnOk result (Extends wires.old wires.new) }
     ensures means { IfOk result (λ net. (nets : Nets) → Reads nets wires.new →
         bit_at nets net ≡ ended_all (map mirror_of parts.now) nets.registers false) }
+    ensures declares { IfOk result (λ net. (registers : ℕ) → all_rest_below registers parts.now ≡ true → IsSound registers wires.old → Declares registers wires.new net) }
 {
     let mut so_far = wires.constant(false)?;
     for part in parts {
@@ -103,6 +111,7 @@ pub fn ends_after(wires: &mut Wires, part: &Stmt, before: Ref) -> Result<Ref, Al
     ensures extends { OnOk result (Extends wires.old wires.new) }
     ensures means { IfOk result (λ net. (nets : Nets) → Reads nets wires.new →
         bit_at nets net ≡ ended_after (mirror_of part.now) nets.registers (bit_at nets before)) }
+    ensures declares { IfOk result (λ net. (registers : ℕ) → rests_below registers part.now ≡ true → IsSound registers wires.old → Has registers wires.old before → Declares registers wires.new net) }
 {
     let at_once = ends_at_once(wires, part)?;
     let passed = wires.and(before, at_once)?;
@@ -116,6 +125,7 @@ pub fn turns(wires: &mut Wires, body: &Stmt, condition: &Expr) -> Result<Ref, Al
     ensures extends { OnOk result (Extends wires.old wires.new) }
     ensures means { IfOk result (λ net. (nets : Nets) → Reads nets wires.new →
         bit_at nets net ≡ turns_by (mirror_of body.now) condition.now nets.registers) }
+    ensures declares { IfOk result (λ net. (registers : ℕ) → rests_below registers body.now ≡ true → IsSound registers wires.old → Declares registers wires.new net) }
 {
     let body_ends = ends(wires, body)?;
     let again = value(wires, condition)?;
@@ -134,6 +144,8 @@ pub fn enter(
     ensures extends { OnOk result (Extends wires.old wires.new) }
     ensures means { OnOk result ((nets : Nets) → Reads nets wires.new →
         rests_as_bits nets rests.new.items ≡ rests_as_bits nets rests.old.items ++ (mirror_of s.now).enter (bit_at nets start)) }
+    ensures declares { OnOk result ((registers : ℕ) → rests_below registers s.now ≡ true → Has registers wires.old start → DeclaresRests registers wires.old rests.old.items →
+        DeclaresRests registers wires.new rests.new.items) }
 {
     match s {
         Stmt::Pause(place) => rest(rests, *place, start),
@@ -145,8 +157,10 @@ pub fn enter(
 
 /// One more place where control rests.
 fn rest(rests: &mut Vec<DrivenPlace>, place: u32, when: Ref) -> Result<(), AllocError>
-    ensures { OnOk result ((nets : Nets) →
+    ensures means { OnOk result ((nets : Nets) →
         rests_as_bits nets rests.new.items ≡ rests_as_bits nets rests.old.items ++ ((place, bit_at nets when) ∷ [])) }
+    ensures declares { OnOk result ((registers : ℕ) (wires : Wires) → Has registers wires when →
+        DeclaresRests registers wires rests.old.items → DeclaresRests registers wires rests.new.items) }
 {
     rests.push(DrivenPlace { place, when })?;
     Ok(())
@@ -163,6 +177,8 @@ fn enter_first(
     ensures extends { OnOk result (Extends wires.old wires.new) }
     ensures means { OnOk result ((nets : Nets) → Reads nets wires.new →
         rests_as_bits nets rests.new.items ≡ rests_as_bits nets rests.old.items ++ enter_all (map mirror_of parts.now) (bit_at nets start)) }
+    ensures declares { OnOk result ((registers : ℕ) → all_rest_below registers parts.now ≡ true → Has registers wires.old start → DeclaresRests registers wires.old rests.old.items →
+        DeclaresRests registers wires.new rests.new.items) }
 {
     let mut start = start;
     for part in parts {
@@ -179,6 +195,8 @@ pub fn moves(wires: &mut Wires, rests: &mut Vec<DrivenPlace>, s: &Stmt) -> Resul
     ensures extends { OnOk result (Extends wires.old wires.new) }
     ensures means { OnOk result ((nets : Nets) → Reads nets wires.new →
         rests_as_bits nets rests.new.items ≡ rests_as_bits nets rests.old.items ++ (mirror_of s.now).move nets.registers) }
+    ensures declares { OnOk result ((registers : ℕ) → rests_below registers s.now ≡ true → DeclaresRests registers wires.old rests.old.items →
+        DeclaresRests registers wires.new rests.new.items) }
 {
     match s {
         Stmt::Seq(parts) => moves_on(wires, rests, parts.as_slice()),
@@ -199,6 +217,8 @@ fn moves_round(
     ensures means { OnOk result ((nets : Nets) → Reads nets wires.new →
         rests_as_bits nets rests.new.items ≡ rests_as_bits nets rests.old.items
         ++ ((mirror_of body.now).move nets.registers ++ (mirror_of body.now).enter (turns_by (mirror_of body.now) condition.now nets.registers))) }
+    ensures declares { OnOk result ((registers : ℕ) → rests_below registers body.now ≡ true → DeclaresRests registers wires.old rests.old.items →
+        DeclaresRests registers wires.new rests.new.items) }
 {
     moves(wires, rests, body)?;
     let turns = turns(wires, body, condition)?;
@@ -216,6 +236,8 @@ fn moves_on(
     ensures extends { OnOk result (Extends wires.old wires.new) }
     ensures means { OnOk result ((nets : Nets) → Reads nets wires.new →
         rests_as_bits nets rests.new.items ≡ rests_as_bits nets rests.old.items ++ move_all (map mirror_of parts.now) nets.registers false) }
+    ensures declares { OnOk result ((registers : ℕ) → all_rest_below registers parts.now ≡ true → DeclaresRests registers wires.old rests.old.items →
+        DeclaresRests registers wires.new rests.new.items) }
 {
     let mut so_far = wires.constant(false)?;
     for part in parts {

@@ -1,9 +1,9 @@
 //! What a statement does in the step in which it is started.
 
-ghost use Rattle.std.specs.Prelude.{◌≡◌, false, ◌++◌, ◌&&◌, List, map, OnOk};
+ghost use Rattle.std.specs.Prelude.{◌≡◌, ℕ, false, ◌++◌, ◌&&◌, List, map, OnOk};
 ghost use Rattle.qz_driver.specs.Verilog.{Nets, bit_at};
-ghost use Rattle.qz_driver.specs.WireTable.{Reads, Extends};
-ghost use Rattle.qz_driver.specs.Driven.{writes_as_bits};
+ghost use Rattle.qz_driver.specs.WireTable.{Reads, Extends, Has};
+ghost use Rattle.qz_driver.specs.Driven.{writes_as_bits, DeclaresWrites};
 ghost use Rattle.qz_driver.specs.Mirror.{mirror_of, driven, start_all};
 
 use crate::control::{ends_at_once, value};
@@ -24,6 +24,8 @@ pub fn surface(
     ensures extends { OnOk result (Extends wires.old wires.new) }
     ensures means { OnOk result ((nets : Nets) → Reads nets wires.new →
         writes_as_bits nets writes.new.items ≡ writes_as_bits nets writes.old.items ++ (mirror_of s.now).start (bit_at nets start)) }
+    ensures declares { OnOk result ((registers : ℕ) → Has registers wires.old start → DeclaresWrites registers wires.old writes.old.items →
+        DeclaresWrites registers wires.new writes.new.items) }
 {
     match s {
         Stmt::Assign(target, e) => assign(wires, writes, *target, e, start),
@@ -44,6 +46,8 @@ fn assign(
     ensures extends { OnOk result (Extends wires.old wires.new) }
     ensures means { OnOk result ((nets : Nets) → Reads nets wires.new →
         writes_as_bits nets writes.new.items ≡ writes_as_bits nets writes.old.items ++ driven target e.now (bit_at nets guard)) }
+    ensures declares { OnOk result ((registers : ℕ) → Has registers wires.old guard → DeclaresWrites registers wires.old writes.old.items →
+        DeclaresWrites registers wires.new writes.new.items) }
 {
     if let Var::Formal(output) = target {
         let value = value(wires, e)?;
@@ -67,6 +71,8 @@ fn surface_of_all(
     ensures extends { OnOk result (Extends wires.old wires.new) }
     ensures means { OnOk result ((nets : Nets) → Reads nets wires.new →
         writes_as_bits nets writes.new.items ≡ writes_as_bits nets writes.old.items ++ start_all (map mirror_of parts.now) (bit_at nets start)) }
+    ensures declares { OnOk result ((registers : ℕ) → Has registers wires.old start → DeclaresWrites registers wires.old writes.old.items →
+        DeclaresWrites registers wires.new writes.new.items) }
 {
     let mut start = start;
     for part in parts {

@@ -1,9 +1,9 @@
 //! The wires of a circuit that is being made: equal right sides have one wire.
 
-ghost use Rattle.std.specs.Prelude.{◌≡◌, ℕ, ◌&&◌, ◌||◌, not, length, IfOk, IfSome};
+ghost use Rattle.std.specs.Prelude.{◌≡◌, ℕ, ◌&&◌, ◌||◌, not, [], length, IfOk, IfSome};
 ghost use Rattle.qz_driver.specs.declared.verilog.Rhs.{Rhs};
-ghost use Rattle.qz_driver.specs.Verilog.{Nets, bit_at, right_side};
-ghost use Rattle.qz_driver.specs.WireTable.{rights, Reads, Extends};
+ghost use Rattle.qz_driver.specs.Verilog.{Nets, bit_at, right_side, ReadsDeclared};
+ghost use Rattle.qz_driver.specs.WireTable.{rights, Reads, Extends, Has, IsSound, Declares};
 
 use crate::verilog::{Ref, Rhs, is_true};
 use indexmap::IndexSet;
@@ -17,7 +17,9 @@ pub struct Wires {
 }
 
 impl Wires {
-    pub fn new(alloc: Global) -> Wires {
+    pub fn new(alloc: Global) -> Wires
+        ensures { rights result ≡ [] }
+    {
         Wires {
             table: IndexSet::new(alloc),
         }
@@ -35,6 +37,8 @@ impl Wires {
         ensures extends { Extends self.old self.new }
         ensures means { IfOk result (λ net. (nets : Nets) → Reads nets self.new →
             bit_at nets net ≡ right_side nets rhs) }
+        ensures declares { IfOk result (λ net. (registers : ℕ) → IsSound registers self.old →
+            ReadsDeclared registers (length (rights self.old)) rhs → Declares registers self.new net) }
     {
         let (number, _) = self.table.insert_full(rhs)?;
         Ok(Ref::Wire(number as u64))
@@ -54,6 +58,7 @@ impl Wires {
     pub fn constant(&mut self, value: bool) -> Result<Ref, AllocError>
         ensures extends { Extends self.old self.new }
         ensures means { IfOk result (λ net. (nets : Nets) → Reads nets self.new → bit_at nets net ≡ value) }
+        ensures declares { IfOk result (λ net. (registers : ℕ) → IsSound registers self.old → Declares registers self.new net) }
     {
         self.add(Rhs::Const(Value::truth(value)))
     }
@@ -61,6 +66,8 @@ impl Wires {
     pub fn not(&mut self, a: Ref) -> Result<Ref, AllocError>
         ensures extends { Extends self.old self.new }
         ensures means { IfOk result (λ net. (nets : Nets) → Reads nets self.new → bit_at nets net ≡ not (bit_at nets a)) }
+        ensures declares { IfOk result (λ net. (registers : ℕ) → IsSound registers self.old → Has registers self.old a →
+            Declares registers self.new net) }
     {
         match self.constant_of(a) {
             Some(value) => {
@@ -75,6 +82,8 @@ impl Wires {
         ensures extends { Extends self.old self.new }
         ensures means { IfOk result (λ net. (nets : Nets) → Reads nets self.new →
             bit_at nets net ≡ (bit_at nets a && bit_at nets b)) }
+        ensures declares { IfOk result (λ net. (registers : ℕ) → IsSound registers self.old → Has registers self.old a →
+            Has registers self.old b → Declares registers self.new net) }
     {
         match self.constant_of(a) {
             Some(true) => Ok(b),
@@ -91,6 +100,8 @@ impl Wires {
         ensures extends { Extends self.old self.new }
         ensures means { IfOk result (λ net. (nets : Nets) → Reads nets self.new →
             bit_at nets net ≡ (bit_at nets a || bit_at nets b)) }
+        ensures declares { IfOk result (λ net. (registers : ℕ) → IsSound registers self.old → Has registers self.old a →
+            Has registers self.old b → Declares registers self.new net) }
     {
         match self.constant_of(a) {
             Some(true) => Ok(a),

@@ -1,4 +1,6 @@
 use Rattle.std.proofs.Common.{◌∙◌}
+use Rattle.qz_driver.proofs.Declaring.{still_has, rests_stay}
+use Rattle.qz_driver.proofs.Walks.{member_below}
 use Rattle.qz_driver.specs.Mirror.{mirror_of}
 use Rattle.qz_driver.proofs.Growing.{through}
 use Rattle.qz_driver.proofs.Walks.{move_step, appended_again}
@@ -14,6 +16,14 @@ moves_on-loop-part-preserved t c = record {
       move_step c.args.parts.now c.loop-part.part-index c.part-item.result c.loop-part-test.true c.part-item.is nets.registers _ _ _ _ _
       (c.in_ok-moves.ensures.means nets at_moves) (c.in_ok-enter.ensures.means nets at_enter) (c.in_ok-so_far-2.ensures.means nets reads)
       ∙ c.loop-part.invariant.rest nets (c.in_ok-moves.ensures.extends.reads nets at_moves);
+  declares = λ registers below rests.
+      let before = c.loop-part.invariant.declares registers below rests in
+      let here = member_below c.args.parts.now c.loop-part.part-index c.part-item.result c.loop-part-test.true c.part-item.is registers below in
+      let moved = c.in_ok-moves.ensures.declares registers here before.0 in
+      let so_far = still_has registers _ _ _ c.in_ok-moves.ensures.extends before.1 in
+      let entered = c.in_ok-enter.ensures.declares registers here so_far moved in
+      let ends = c.in_ok-so_far-2.ensures.declares registers here entered.sound (still_has registers _ _ _ c.in_ok-enter.ensures.extends so_far) in
+      (rests_stay registers _ _ c.in_ok-so_far-2.ensures.extends ends.sound _ entered, ends.has);
 }
 
 pub moves_round-returns-clause-extends : goal.moves_round-returns-clause-extends
@@ -28,3 +38,9 @@ moves_round-returns-clause-means t c = λ nets reads.
     let moved = c.in_ok-moves.ensures.means nets at_moves in
     let entered = c.in_ok-enter.ensures.means nets reads in
     appended_again _ _ _ _ (mirror_of c.args.body.now).enter _ _ moved entered turns
+
+pub moves_round-returns-clause-declares : goal.moves_round-returns-clause-declares
+moves_round-returns-clause-declares t c = λ registers below rests.
+    let moved = c.in_ok-moves.ensures.declares registers below rests in
+    let turns = c.in_ok-turns.ensures.declares registers below moved.sound in
+    c.in_ok-enter.ensures.declares registers below turns.has (rests_stay registers _ _ c.in_ok-turns.ensures.extends turns.sound _ moved)

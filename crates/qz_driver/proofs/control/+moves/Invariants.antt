@@ -1,4 +1,7 @@
-use Rattle.std.proofs.Common.{◌≡◌, ◌++◌, map, drop, false}
+use Rattle.std.proofs.Common.{ℕ, true, ◌≡◌, ◌++◌, map, drop, false}
+use Rattle.qz_driver.specs.WireTable.{Has}
+use Rattle.qz_driver.specs.RestsBelow.{all_rest_below}
+use Rattle.qz_driver.specs.Driven.{DeclaresRests}
 use Rattle.qz_driver.specs.Verilog.{Nets, bit_at}
 use Rattle.qz_driver.specs.WireTable.{Reads, Extends}
 use Rattle.qz_driver.specs.Driven.{rests_as_bits}
@@ -11,4 +14,6 @@ invariant-moves_on-loop-part l = record {
   rest : (nets : Nets) → Reads nets l.wires →
       rests_as_bits nets l.rests.items ++ move_all (map mirror_of (drop l.part-index l.parts)) nets.registers (bit_at nets l.so_far)
       ≡ rests_as_bits nets l.fn.rests.items ++ move_all (map mirror_of l.parts) nets.registers false;
+  declares : (registers : ℕ) → all_rest_below registers l.parts ≡ true → DeclaresRests registers l.fn.wires l.fn.rests.items →
+      DeclaresRests registers l.wires l.rests.items × Has registers l.wires l.so_far;
 }

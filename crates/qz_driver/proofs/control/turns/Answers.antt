@@ -1,3 +1,4 @@
+use Rattle.qz_driver.proofs.Declaring.{still_has}
 use Rattle.qz_driver.proofs.Growing.{through}
 use Rattle.qz_driver.proofs.control.turns.Goals as goal
 
@@ -13,3 +14,9 @@ returns-clause-means c = λ nets reads.
     let again = c.in_ok-again.ensures.means nets at_again in
     let body = c.in_ok-body_ends.ensures.means nets at_body in
     cc
+
+pub returns-clause-declares : goal.returns-clause-declares
+returns-clause-declares c = λ registers below sound.
+    let body = c.in_ok-body_ends.ensures.declares registers below sound in
+    let again = c.in_ok-again.ensures.declares registers body.sound in
+    c.in_ok-net.ensures.declares registers again.sound (still_has registers _ _ _ c.in_ok-again.ensures.extends body.has) again.has

@@ -1,4 +1,6 @@
 use Rattle.std.proofs.Common.{◌∙◌, ap, ◌&&◌}
+use Rattle.qz_driver.proofs.Declaring.{still_has, writes_stay}
+use Rattle.qz_driver.proofs.Walks.{member_below}
 use Rattle.qz_driver.specs.Verilog.{bit_at}
 use Rattle.qz_driver.specs.Mirror.{mirror_of}
 use Rattle.qz_driver.proofs.Growing.{through}
@@ -18,6 +20,17 @@ depth_of_all-loop-part-preserved t c = record {
       (c.in_ok-depth.ensures.means nets at_depth) (c.in_ok-start.ensures.means nets at_start)
       (c.in_ok-surface.ensures.means nets at_surface) (c.in_ok-so_far-2.ensures.means nets reads)
       ∙ c.loop-part.invariant.rest nets (c.in_ok-depth.ensures.extends.reads nets at_depth);
+  declares = λ registers below has writes.
+      let before = c.loop-part.invariant.declares registers below has writes in
+      let here = member_below c.args.parts.now c.loop-part.part-index c.part-item.result c.loop-part-test.true c.part-item.is registers below in
+      let act = still_has registers _ _ _ c.loop-part.invariant.extends has in
+      let resumed = c.in_ok-depth.ensures.declares registers here act before.0 in
+      let start = c.in_ok-start.ensures.declares registers resumed.sound (still_has registers _ _ _ c.in_ok-depth.ensures.extends act)
+      (still_has registers _ _ _ c.in_ok-depth.ensures.extends before.1) in
+      let written = c.in_ok-surface.ensures.declares registers start.has (writes_stay registers _ _ c.and.ensures.extends start.sound _ resumed) in
+      let ends = c.in_ok-so_far-2.ensures.declares registers here written.sound
+      (still_has registers _ _ _ (through _ _ _ c.in_ok-depth.ensures.extends (through _ _ _ c.and.ensures.extends c.in_ok-surface.ensures.extends)) before.1) in
+      (writes_stay registers _ _ c.in_ok-so_far-2.ensures.extends ends.sound _ written, ends.has);
 }
 
 pub depth_of_loop-returns-clause-extends : goal.depth_of_loop-returns-clause-extends
@@ -35,3 +48,12 @@ depth_of_loop-returns-clause-means t c = λ nets reads.
     appended_again _ _ _ _ (mirror_of c.args.body.now).start _ _
     (c.in_ok-depth.ensures.means nets at_depth) (c.in_ok-surface.ensures.means nets reads)
     (again ∙ ap (λ b. bit_at nets c.args.act && b) turns)
+
+pub depth_of_loop-returns-clause-declares : goal.depth_of_loop-returns-clause-declares
+depth_of_loop-returns-clause-declares t c = λ registers below has writes.
+    let resumed = c.in_ok-depth.ensures.declares registers below has writes in
+    let turns = c.in_ok-turns.ensures.declares registers below resumed.sound in
+    let again = c.in_ok-again.ensures.declares registers turns.sound
+    (still_has registers _ _ _ (through _ _ _ c.in_ok-depth.ensures.extends c.in_ok-turns.ensures.extends) has) turns.has in
+    c.in_ok-surface.ensures.declares registers again.has
+    (writes_stay registers _ _ (through _ _ _ c.in_ok-turns.ensures.extends c.and.ensures.extends) again.sound _ resumed)

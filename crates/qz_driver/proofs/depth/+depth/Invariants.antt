@@ -1,4 +1,7 @@
-use Rattle.std.proofs.Common.{◌≡◌, ◌++◌, map, drop, false}
+use Rattle.std.proofs.Common.{ℕ, true, ◌≡◌, ◌++◌, map, drop, false}
+use Rattle.qz_driver.specs.WireTable.{Has}
+use Rattle.qz_driver.specs.RestsBelow.{all_rest_below}
+use Rattle.qz_driver.specs.Driven.{DeclaresWrites}
 use Rattle.qz_driver.specs.Verilog.{Nets, bit_at}
 use Rattle.qz_driver.specs.WireTable.{Reads, Extends}
 use Rattle.qz_driver.specs.Driven.{writes_as_bits}
@@ -11,4 +14,6 @@ invariant-depth_of_all-loop-part l = record {
   rest : (nets : Nets) → Reads nets l.wires →
       writes_as_bits nets l.writes.items ++ resume_all (map mirror_of (drop l.part-index l.parts)) nets.registers (bit_at nets l.act) (bit_at nets l.so_far)
       ≡ writes_as_bits nets l.fn.writes.items ++ resume_all (map mirror_of l.parts) nets.registers (bit_at nets l.act) false;
+  declares : (registers : ℕ) → all_rest_below registers l.parts ≡ true → Has registers l.fn.wires l.act → DeclaresWrites registers l.fn.wires l.fn.writes.items →
+      DeclaresWrites registers l.wires l.writes.items × Has registers l.wires l.so_far;
 }

@@ -1,4 +1,6 @@
-use Rattle.std.proofs.Common.{◌≡◌, ◌++◌, map, drop}
+use Rattle.std.proofs.Common.{ℕ, ◌≡◌, ◌++◌, map, drop}
+use Rattle.qz_driver.specs.WireTable.{Has}
+use Rattle.qz_driver.specs.Driven.{DeclaresWrites}
 use Rattle.qz_driver.specs.Verilog.{Nets, bit_at}
 use Rattle.qz_driver.specs.WireTable.{Reads, Extends}
 use Rattle.qz_driver.specs.Driven.{writes_as_bits}
@@ -11,4 +13,6 @@ invariant-surface_of_all-loop-part l = record {
   rest : (nets : Nets) → Reads nets l.wires →
       writes_as_bits nets l.writes.items ++ start_all (map mirror_of (drop l.part-index l.parts)) (bit_at nets l.start)
       ≡ writes_as_bits nets l.fn.writes.items ++ start_all (map mirror_of l.parts) (bit_at nets l.fn.start);
+  declares : (registers : ℕ) → Has registers l.fn.wires l.fn.start → DeclaresWrites registers l.fn.wires l.fn.writes.items →
+      DeclaresWrites registers l.wires l.writes.items × Has registers l.wires l.start;
 }
