@@ -3,3 +3,4 @@ mod GrammarLemmas
 mod FormalLemmas
 mod SourceLemmas
 mod InstantLemmas
+mod CoreLemmas

@@ -4,4 +4,6 @@ pub mod Causes
 pub mod Answers
 pub mod Grammar
 pub mod Reading
+pub mod CoreTree
+pub mod Typing
 pub mod Stops
