@@ -23,3 +23,4 @@ pub mod Implementing
 mod InstantLemmas
 pub mod DoingPrograms
 pub mod Declaring
+mod CoreLemmas

@@ -254,3 +254,7 @@ module _ (level : ℕ) (whole : List (List ℕ)) (parts : List SourceStmt) (upco
 pub on_not_built : {P Q : Type 0} (fault : NoSource) → (P → Q) → OnNotBuilt fault P → OnNotBuilt fault Q
 on_not_built NotBuilt f fact = f fact
 on_not_built Memory f fact = tt
+
+-- texts of the same characters are one
+pub same_chars : (text other : List ℕ) → IsUtf8 text → IsUtf8 other → chars text ≡ chars other → text ≡ other
+same_chars text other utf8 utf8_other e = sym (encodes-chars text utf8) ∙ rw e (encodes-chars other utf8_other)

@@ -4,6 +4,8 @@ pub mod Causes
 pub mod Answers
 pub mod Grammar
 pub mod Reading
+pub mod CoreTree
+pub mod Typing
 pub mod Stops
 pub mod Mirror
 pub mod FirstLanguage

@@ -1,8 +1,18 @@
 //! From the tree as it is written to the core tree: names become numbers, lists become sequences.
 
+ghost use Rattle.std.specs.Prelude.{ℕ, ◌≡◌, ◌↔◌, ◌+◌, ◌<◌, ◌≤◌, ◌^◌, [], replicate, None, Some, IsTrue, length, IfOk, IfErr, MatchOption};
+ghost use Rattle.std.specs.Str.{chars};
+ghost use Rattle.qz_values.specs.Values.{yes};
+ghost use Rattle.qz_syntax.specs.Sizes.{size_of};
+ghost use Rattle.qz_syntax.specs.declared.expressions.Expr.TheVariants.{Lit};
+ghost use Rattle.qz_syntax.specs.declared.expressions.Var.TheVariants as variable;
+ghost use Rattle.qz_syntax.specs.declared.statements.Stmt.TheVariants as stmt;
+ghost use Rattle.qz_driver.specs.CoreTree.{IsAsked, core_module, number_of, differ, sequence, emits_formals, core, cores};
+ghost use Rattle.qz_driver.specs.Reading.{OnNotBuilt};
+ghost use Rattle.qz_driver.specs.Typing.{IsCore, AreCores, NoCore, NoCores};
+
 use crate::reader::{MAX_FORMALS, NoSource};
 use crate::source::{SourceModule, SourceStmt};
-use indexmap::IndexSet;
 use qz_syntax::{Expr, Formal, Module, Name, Stmt, Var, size};
 use qz_values::Value;
 use sqlite_items::{Boxed, Items};
@@ -20,52 +30,98 @@ struct Counts {
 
 impl Counts {
     /// The next place's number.
-    fn place(&mut self) -> Result<u32, NoSource> {
+    fn place(&mut self) -> Option<u32>
+        ensures { MatchOption result (2 ^ 32 ≤ self.old.places + 1)
+            (λ place. (place ≡ self.old.places) × (self.new.places ≡ self.old.places + 1) × (self.new.loops ≡ self.old.loops)) }
+    {
         let place = self.places;
-        self.places = place.checked_add(1).ok_or(NoSource::NotBuilt)?;
-        Ok(place)
+        self.places = place.checked_add(1)?;
+        Some(place)
     }
 
     /// The next loop's number.
-    fn turn(&mut self) -> Result<u32, NoSource> {
+    fn turn(&mut self) -> Option<u32>
+        ensures { MatchOption result (2 ^ 32 ≤ self.old.loops + 1)
+            (λ turn. (turn ≡ self.old.loops) × (self.new.loops ≡ self.old.loops + 1) × (self.new.places ≡ self.old.places)) }
+    {
         let turn = self.loops;
-        self.loops = turn.checked_add(1).ok_or(NoSource::NotBuilt)?;
-        Ok(turn)
+        self.loops = turn.checked_add(1)?;
+        Some(turn)
     }
 }
 
 /// The module that a source describes, whose name has to be this one.
-pub fn typed(alloc: Global, name: &str, source: SourceModule) -> Result<Module, NoSource> {
-    if !is_asked(name, &source) {
+pub fn typed(alloc: Global, name: &str, source: SourceModule) -> Result<Module, NoSource>
+    ensures asked { IfOk result (λ m. IsAsked name.now source) }
+    ensures core { IfOk result (λ m. m ≡ core_module source) }
+    ensures none { IfErr result (λ fault. OnNotBuilt fault (IsAsked name.now source → ⊥)) }
+{
+    if !has_head(name, &source) {
         return Err(NoSource::NotBuilt);
     }
     let mut counts = Counts {
         places: 0,
         loops: 0,
     };
-    let body = body(alloc, &source, &mut counts)?;
+    let body = members(
+        alloc,
+        source.formals.as_slice(),
+        &mut counts,
+        source.body.as_slice(),
+    )?;
     let labels = unlabeled(alloc, counts.places)?;
-    small(module_of(alloc, source, labels, counts.loops, body))
+    small(module_of(alloc, source, labels, counts.loops, sequence(body)))
 }
 
-/// Whether the source has this name and not too many formals.
-fn is_asked(name: &str, source: &SourceModule) -> bool {
-    source.name.as_str() == name && source.formals.len() <= MAX_FORMALS
+/// Whether the source has this name, not too many formals, and no two of one name.
+fn has_head(name: &str, source: &SourceModule) -> bool
+    ensures { IsTrue result ↔ ((source.now.name ≡ chars name.now) × (length source.now.formals ≤ 256) × IsTrue (differ source.now.formals)) }
+{
+    if !is_named(&source.name, name) || source.formals.len() > MAX_FORMALS {
+        return false;
+    }
+    differ(source.formals.as_slice())
+}
+
+/// Whether the name has this text.
+fn is_named(name: &Name, text: &str) -> bool
+    ensures { IsTrue result ↔ (name.now ≡ chars text.now) }
+{
+    name.as_str() == text
+}
+
+/// Whether each name stands once.
+fn differ(formals: &[Formal]) -> bool
+    ensures { result ≡ differ formals.now }
+{
+    let mut rest = formals;
+    while let Some((formal, others)) = rest.split_first() {
+        if number_of(others, &formal.name).is_some() {
+            return false;
+        }
+        rest = others;
+    }
+    true
+}
+
+/// The number of the first formal of this name.
+fn number_of(formals: &[Formal], name: &Name) -> Option<usize>
+    ensures { result ≡ number_of formals.now name.now }
+{
+    formals.iter().position(|formal| formal.name == *name)
 }
 
 /// The module, if it isn't too large.
-fn small(module: Module) -> Result<Module, NoSource> {
-    if size(&module) <= MAX_UNITS {
-        Ok(module)
+fn small(typed: Module) -> Result<Module, NoSource>
+    ensures small { IfOk result (λ m. size_of m ≤ 100000) }
+    ensures same { IfOk result (λ m. m ≡ typed) }
+    ensures none { IfErr result (λ fault. OnNotBuilt fault (100000 < size_of typed)) }
+{
+    if size(&typed) <= MAX_UNITS {
+        Ok(typed)
     } else {
         Err(NoSource::NotBuilt)
     }
-}
-
-/// The statement of the module's block.
-fn body(alloc: Global, source: &SourceModule, counts: &mut Counts) -> Result<Stmt, NoSource> {
-    let numbers = numbers(alloc, source.formals.as_slice())?;
-    statements(alloc, &numbers, counts, source.body.as_slice())
 }
 
 /// The module with these labels, so many loops and this body.
@@ -75,7 +131,9 @@ fn module_of(
     labels: Items<Option<Name>>,
     loops: u32,
     body: Stmt,
-) -> Module {
+) -> Module
+    ensures { result ≡ record { name = source.name; formals = source.formals; decls = []; labels = labels; loops = loops; calls = 0; body = body } }
+{
     Module {
         name: source.name,
         formals: source.formals,
@@ -87,20 +145,11 @@ fn module_of(
     }
 }
 
-/// The formals' names, each at its number; they all differ.
-fn numbers<'f>(alloc: Global, formals: &'f [Formal]) -> Result<IndexSet<&'f str>, NoSource> {
-    let mut numbers = IndexSet::new(alloc);
-    for formal in formals {
-        let (_, is_new) = numbers.insert_full(formal.name.as_str())?;
-        if !is_new {
-            return Err(NoSource::NotBuilt);
-        }
-    }
-    Ok(numbers)
-}
-
 /// For each place that it has no label.
-fn unlabeled(alloc: Global, places: u32) -> Result<Items<Option<Name>>, NoSource> {
+fn unlabeled(alloc: Global, places: u32) -> Result<Items<Option<Name>>, NoSource>
+    ensures labels { IfOk result (λ labels. labels ≡ replicate places None) }
+    ensures memory { IfErr result (λ fault. fault ≡ NoSource.Memory) }
+{
     let mut labels = Items::new(alloc);
     for _ in 0..places {
         labels.push(None)?;
@@ -108,57 +157,78 @@ fn unlabeled(alloc: Global, places: u32) -> Result<Items<Option<Name>>, NoSource
     Ok(labels)
 }
 
-/// A list as one statement: none is `nothing`, one is itself.
+/// The core statements of a list, one after the other.
 #[cycle(core)]
-fn statements(
+fn members(
     alloc: Global,
-    numbers: &IndexSet<&str>,
+    formals: &[Formal],
     counts: &mut Counts,
     parts: &[SourceStmt],
-) -> Result<Stmt, NoSource> {
+) -> Result<Items<Stmt>, NoSource>
+    ensures core { IfOk result (λ stmts. AreCores formals.now parts.now counts.old stmts counts.new) }
+    ensures none { IfErr result (λ fault. OnNotBuilt fault (NoCores formals.now parts.now counts.old)) }
+{
     let mut members = Items::new(alloc);
     for part in parts {
-        members.push(statement(alloc, numbers, counts, part)?)?;
+        members.push(statement(alloc, formals, counts, part)?)?;
     }
-    Ok(sequence(members))
+    Ok(members)
 }
 
 #[cycle(core)]
 fn statement(
     alloc: Global,
-    numbers: &IndexSet<&str>,
+    formals: &[Formal],
     counts: &mut Counts,
     source: &SourceStmt,
-) -> Result<Stmt, NoSource> {
+) -> Result<Stmt, NoSource>
+    ensures core { IfOk result (λ s. IsCore formals.now source.now counts.old s counts.new) }
+    ensures none { IfErr result (λ fault. OnNotBuilt fault (NoCore formals.now source.now counts.old)) }
+{
     match source {
         SourceStmt::Nothing => Ok(Stmt::Nothing),
-        SourceStmt::Pause => Ok(Stmt::Pause(counts.place()?)),
-        SourceStmt::Emit(name) => emit(numbers, name),
+        SourceStmt::Pause => match counts.place() {
+            Some(place) => Ok(Stmt::Pause(place)),
+            None => Err(NoSource::NotBuilt),
+        },
+        SourceStmt::Emit(name) => match emit(formals, name) {
+            Some(stmt) => Ok(stmt),
+            None => Err(NoSource::NotBuilt),
+        },
         SourceStmt::Loop(body) => {
-            let turn = counts.turn()?;
-            let body = statement(alloc, numbers, counts, body.get())?;
+            let Some(turn) = counts.turn() else {
+                return Err(NoSource::NotBuilt);
+            };
+            let body = statement(alloc, formals, counts, body.get())?;
             Ok(Stmt::Loop(
                 turn,
                 Boxed::new(alloc, body)?,
                 Expr::Lit(Value::truth(true)),
             ))
         }
-        SourceStmt::Block(parts) => statements(alloc, numbers, counts, parts.as_slice()),
+        SourceStmt::Block(parts) => {
+            let members = members(alloc, formals, counts, parts.as_slice())?;
+            Ok(sequence(members))
+        }
     }
 }
 
 /// `emit x`, which is `x = true`.
-fn emit(numbers: &IndexSet<&str>, name: &Name) -> Result<Stmt, NoSource> {
-    match numbers.get_index_of(name.as_str()) {
-        Some(number) => {
-            let number = u32::try_from(number).map_err(|_| NoSource::NotBuilt)?;
-            Ok(Stmt::Assign(Var::Formal(number), Expr::Lit(Value::truth(true))))
-        }
-        None => Err(NoSource::NotBuilt),
+fn emit(formals: &[Formal], name: &Name) -> Option<Stmt>
+    ensures { MatchOption result (length formals.now ≤ 256 → number_of formals.now name.now ≡ None)
+        (λ s. (number : ℕ) × (number_of formals.now name.now ≡ Some number) × (s ≡ stmt.Assign (variable.Formal number) (Lit yes))) }
+{
+    let number = number_of(formals, name)?;
+    match u32::try_from(number) {
+        Ok(number) => Some(Stmt::Assign(Var::Formal(number), Expr::Lit(Value::truth(true)))),
+        Err(_) => None,
     }
 }
 
-fn sequence(mut members: Items<Stmt>) -> Stmt {
+/// A list as one statement: none is `nothing`, one is itself.
+fn sequence(mut members: Items<Stmt>) -> Stmt
+    ensures { result ≡ sequence members }
+{
     if members.len() > 1 {
         return Stmt::Seq(members);
     }
