@@ -4,3 +4,4 @@ pub mod Walks
 pub mod Driving
 pub mod Implementing
 pub mod Declaring
+pub mod RestsLemmas
