@@ -5,3 +5,4 @@ pub mod Driving
 pub mod Implementing
 pub mod Declaring
 pub mod RestsLemmas
+pub mod Settling

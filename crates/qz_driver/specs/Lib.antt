@@ -12,3 +12,4 @@ pub mod WireTable
 pub mod Driven
 pub mod Implements
 pub mod RestsBelow
+pub mod SettlesOnce

@@ -7,6 +7,7 @@ mod circuit;
 mod control;
 mod depth;
 mod instant_loop;
+mod laws;
 mod parts;
 mod reader;
 mod refusal;
@@ -22,4 +23,5 @@ mod wires;
 mod words;
 
 pub use call::quartzc;
+pub use laws::valid_modules_settle;
 pub use status::Status;
