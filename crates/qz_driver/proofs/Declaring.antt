@@ -1,6 +1,6 @@
 -- A right side that is added to a table whose right sides read registers and earlier wires alone.
-use Rattle.std.proofs.Common.{◌≡◌, ℕ, ◌<◌, Bool, true, false, List, [], ◌∷◌, ◌++◌, length, get_or, slice_get, Some, refl, ap, sym, ◌∙◌, subst, arith, inl, inr, ◌⊎◌, if◌then◌else◌, length-append}
-use Rattle.std.specs.List.{list_any}
+use Rattle.std.proofs.Common.{suc, ◌≡◌, ℕ, ◌<◌, Bool, true, false, List, [], ◌∷◌, ◌++◌, length, get_or, slice_get, Some, refl, ap, sym, ◌∙◌, subst, arith, inl, inr, ◌⊎◌, if◌then◌else◌, length-append}
+use Rattle.std.specs.List.{list_any, AllByRecursion}
 use Rattle.std.proofs.lemmas.Option.{slice_get_within, slice_get-get_or, get_or_from_slice_get}
 use Rattle.std.proofs.Math.ListN.{get_or-append}
 use Rattle.std.proofs.Math.Seq.{get_or-append_seam}
@@ -9,7 +9,7 @@ use Rattle.qz_driver.specs.declared.verilog.Ref.{Ref}
 use Rattle.qz_driver.specs.declared.verilog.Ref.TheVariants as net
 use Rattle.qz_driver.specs.declared.verilog.Rhs.{Rhs}
 use Rattle.qz_driver.specs.declared.wires.Wires.{Wires}
-use Rattle.qz_driver.specs.Verilog.{ReadsDeclared}
+use Rattle.qz_driver.specs.Verilog.{ReadsDeclared, IsDeclared}
 use Rattle.qz_driver.specs.WireTable.{rights, Has, IsSound, Extends}
 use Rattle.qz_driver.specs.declared.parts.DrivenWrite.{DrivenWrite}
 use Rattle.qz_driver.specs.declared.parts.DrivenPlace.{DrivenPlace}
@@ -64,3 +64,27 @@ module _ (registers : ℕ) (old new : Wires) (grows : Extends old new) (sound : 
 
   pub row_stays : (row : List Ref) → DeclaresRow registers old row → DeclaresRow registers new row
   row_stays row declares = record { sound = sound; each = λ k d within. still_has registers old new _ grows (declares.each k d within) }
+
+module _ (registers : ℕ) (wires : Wires) (sound : IsSound registers wires) where
+  -- nothing needs to be declared
+  pub no_writes : (writes : List DrivenWrite) → writes ≡ [] → DeclaresWrites registers wires writes
+  no_writes writes none = record {
+    sound = sound;
+    guards = λ k d within. absurd (omega (arith, ap length none));
+    values = λ k d within. absurd (omega (arith, ap length none));
+  }
+
+  pub no_rests : (rests : List DrivenPlace) → rests ≡ [] → DeclaresRests registers wires rests
+  no_rests rests none = record { sound = sound; each = λ k d within. absurd (omega (arith, ap length none)) }
+
+-- the table that is empty
+pub sound_empty : (registers : ℕ) (wires : Wires) → rights wires ≡ [] → IsSound registers wires
+sound_empty registers wires none =
+    record { each = λ number right at. absurd (omega (arith, ap length none, slice_get_within (rights wires) number right at)) }
+
+-- a row by its indices, item by item
+pub all_declared : (registers wires : ℕ) (row : List Ref) → ((k : ℕ) (d : Ref) → k < length row → IsDeclared registers wires (get_or row k d))
+    → AllByRecursion (IsDeclared registers wires) row
+all_declared registers wires [] each = tt
+all_declared registers wires (net ∷ row) each =
+    (each 0 net (omega arith), all_declared registers wires row (λ k d within. each (suc k) d (omega arith)))

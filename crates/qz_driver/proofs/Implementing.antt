@@ -1,6 +1,11 @@
 -- The clocks of a circuit that is made of nets that are the mirror's bits.
-use Rattle.std.proofs.Common.{◌≡◌, ℕ, ◌<◌, Bool, true, false, not, List, [], ◌∷◌, ◌++◌, map, length, get_or, slice_get, Some, ap, sym, ◌∙◌, subst, arith, length-append}
-use Rattle.std.specs.List.{range_with_len}
+use Rattle.std.proofs.Common.{refl, ◌+◌, zero, suc, ◌≤◌, nat_lt, ◌≡◌, ℕ, ◌<◌, Bool, true, false, not, List, [], ◌∷◌, ◌++◌, map, length, get_or, slice_get, Some, ap, sym, ◌∙◌, subst, arith, length-append}
+use Rattle.std.specs.List.{range_with_len, list_all, AllByRecursion}
+use Rattle.std.proofs.lemmas.Bool.Decides.{nat_tests}
+use Rattle.qz_driver.specs.FirstLanguage.{IsFirst}
+use Rattle.qz_driver.specs.RestsBelow.{rests_below}
+use Rattle.qz_driver.proofs.RestsLemmas.{rests_below_is}
+use Rattle.qz_driver.proofs.Declaring.{AreSound, all_declared}
 use Rattle.std.proofs.lemmas.List.{get_or-map}
 use Rattle.std.proofs.lemmas.List.FromFn.{fill_by_all}
 use Rattle.std.proofs.lemmas.Option.{slice_get-get_or}
@@ -14,10 +19,10 @@ use Rattle.qz_driver.specs.declared.verilog.Ref.TheVariants.{Reg}
 use Rattle.qz_driver.specs.declared.verilog.Rhs.{Rhs}
 use Rattle.qz_driver.specs.declared.verilog.VModule.{VModule}
 use Rattle.qz_driver.specs.declared.wires.Wires.{Wires}
-use Rattle.qz_driver.specs.Driven.{writes_as_bits, rests_as_bits, AreDriven}
+use Rattle.qz_driver.specs.Driven.{writes_as_bits, rests_as_bits, AreDriven, DeclaresRow}
 use Rattle.qz_driver.specs.Implements.{step_writes, step_rests, IsStep}
 use Rattle.qz_driver.specs.Mirror.{Bits, Control, mirror_of, is_driven}
-use Rattle.qz_driver.specs.Verilog.{Nets, Settles, IsClock, bit_at}
+use Rattle.qz_driver.specs.Verilog.{Nets, Settles, IsClock, IsDeclared, IsValid, bit_at}
 use Rattle.qz_driver.specs.WireTable.{rights, Reads}
 
 -- a row of driven nets, read as bits
@@ -76,4 +81,43 @@ module _ (m : Module) (v : VModule) (table : Wires) (start always : Ref) (writes
             let inside : place < length nexts.0 = let same = nexts.2 in omega arith in
             source place _ (at_front nexts.0 always place inside) ∙ nexts.3 place always inside ∙ ap (λ bits. is_driven bits place) rested;
         started = ap next (sym nexts.2) ∙ source (length nexts.0) always (at_last nexts.0 always) ∙ acting;
+      }
+
+-- numbers that count from 0 are below their count, and below one more
+range_below : (n : ℕ) → list_all (λ place. nat_lt place (n + 1)) (range_with_len 0 n) ≡ true
+range_below n = by_length 0 n (omega arith)
+  where
+    by_length : (from len : ℕ) → from + len ≤ n → list_all (λ place. nat_lt place (n + 1)) (range_with_len from len) ≡ true
+    by_length from zero h = refl
+    by_length from (suc len) h =
+        let low : nat_lt from (n + 1) ≡ true = grind (arith, nat_tests) in
+        rw low (by_length (from + 1) len (omega arith))
+
+-- the places of a module of the first language have registers before the last one
+pub first_rests_below : (m : Module) → IsFirst m → rests_below (length m.labels + 1) m.body ≡ true
+first_rests_below m first =
+    let registers = length m.labels + 1 in
+    sym (rests_below_is registers m.body) ∙ ap (λ places. list_all (λ place. nat_lt place registers) places) first.places
+    ∙ range_below (length m.labels)
+
+module _ (v : VModule) (table : Wires) (registers : ℕ) where
+  -- a module whose table is sound, and whose nets are the table's
+  pub is_valid : v.wires ≡ rights table → length v.regs ≡ registers → length v.nexts ≡ registers → length v.outs ≡ length v.outputs
+      → DeclaresRow registers table v.outs → DeclaresRow registers table v.nexts → IsValid v
+  is_valid wires regs clocked driven outs nexts =
+      let P : List Rhs → Type 0 = λ rights. AreSound registers rights in
+      let Q : ℕ → Type 0 = λ n. AreSound n v.wires in
+      let count : length v.wires ≡ length (rights table) = ap length wires in
+      let declared = λ (row : List Ref) (all : DeclaresRow registers table row).
+      let R : ℕ → ℕ → Type 0 = λ n k. AllByRecursion (IsDeclared n k) row in
+      let here : R registers (length (rights table)) =
+      all_declared registers (length (rights table)) row (λ k d within. (all.each k d within).declared) in
+      let S : ℕ → Type 0 = λ n. R n (length v.wires) in
+      subst S (sym regs) (subst (R registers) (sym count) here) in
+      record {
+        wires = subst Q (sym regs) (subst P (sym wires) outs.sound.each);
+        outs = declared v.outs outs;
+        nexts = declared v.nexts nexts;
+        driven = driven;
+        clocked = clocked ∙ sym regs;
       }

@@ -24,3 +24,5 @@ mod InstantLemmas
 pub mod DoingPrograms
 pub mod Declaring
 mod CoreLemmas
+pub mod RestsLemmas
+pub mod Settling

@@ -4,9 +4,10 @@ use Rattle.std.specs.List.{range_with_len}
 use Rattle.qz_values.specs.Values.{no}
 use Rattle.qz_syntax.specs.declared.modules.Module.{Module}
 use Rattle.qz_driver.specs.declared.verilog.VModule.{VModule}
+use Rattle.qz_driver.specs.FirstLanguage.{IsFirst}
 use Rattle.qz_driver.specs.Does.{port_of}
 use Rattle.qz_driver.specs.Mirror.{Bits, Control, mirror_of, is_driven}
-use Rattle.qz_driver.specs.Verilog.{IsClock}
+use Rattle.qz_driver.specs.Verilog.{IsClock, IsValid}
 
 -- a module is started in the step in which its last register is not set
 abbrev pub starts : Module → Control → Bool
@@ -26,9 +27,12 @@ pub record IsStep (m : Module) (registers : Control) (outs : List Bool) (next : 
   pub places : (place : ℕ) → place < length m.labels → next place ≡ is_driven (step_rests m registers) place
   pub started : next (length m.labels) ≡ true
 
+-- Its name and outputs are the module's, it begins with no control, each of its clocks is a step, and it can
+-- be written where the module is one of the first language.
 pub record Implements (v : VModule) (m : Module) : Type 0 where
   pub name : v.name ≡ m.name
   pub outputs : v.outputs ≡ map port_of m.formals
   -- no place has control, and nothing is started
   pub begins : v.regs ≡ replicate (length m.labels) no ++ no ∷ []
   pub clock : (registers : Control) (outs : List Bool) (next : Control) → IsClock v registers outs next → IsStep m registers outs next
+  pub valid : IsFirst m → IsValid v

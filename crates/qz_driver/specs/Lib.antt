@@ -20,3 +20,4 @@ pub mod WireTable
 pub mod Driven
 pub mod Implements
 pub mod RestsBelow
+pub mod SettlesOnce

@@ -8,6 +8,7 @@ mod control;
 mod depth;
 pub mod first_runs;
 mod instant_loop;
+mod laws;
 mod parts;
 mod reader;
 mod refusal;
@@ -24,4 +25,5 @@ mod wires;
 mod words;
 
 pub use call::quartzc;
+pub use laws::valid_modules_settle;
 pub use status::Status;

@@ -1,4 +1,5 @@
 use Rattle.std.proofs.Common.{ap}
+use Rattle.qz_driver.proofs.Declaring.{no_rests}
 use Rattle.qz_driver.specs.Driven.{rests_as_bits}
 use Rattle.qz_driver.proofs.Growing.{through}
 use Rattle.qz_driver.proofs.Walks.{appended_to_none}
@@ -11,3 +12,8 @@ pub returns-clause-means : goal.returns-clause-means
 returns-clause-means c = λ nets reads.
     appended_to_none _ _ _ _ _ (ap (rests_as_bits nets) c.new-rests.ensures.items)
     (c.in_ok-enter.ensures.means nets (c.in_ok-moves.ensures.extends.reads nets reads)) (c.in_ok-moves.ensures.means nets reads)
+
+pub returns-clause-declares : goal.returns-clause-declares
+returns-clause-declares c = λ registers below sound start.
+    c.in_ok-moves.ensures.declares registers below
+    (c.in_ok-enter.ensures.declares registers below start (no_rests registers _ sound _ c.new-rests.ensures.items))

@@ -1,5 +1,7 @@
 use Rattle.std.proofs.Common.{◌≡◌, ◌+◌, List, length, drop, ap, ◌∙◌, sym, subst, get_or, refl}
 use Rattle.std.proofs.lemmas.List.{at_drop_more}
+use Rattle.qz_driver.proofs.Declaring.{still_has}
+use Rattle.qz_driver.specs.Driven.{DeclaresRow}
 use Rattle.qz_driver.specs.declared.verilog.Ref.{Ref}
 use Rattle.qz_driver.specs.declared.verilog.Ref.TheVariants.{Reg}
 use Rattle.qz_driver.specs.declared.parts.DrivenPlace.{DrivenPlace}
@@ -30,4 +32,11 @@ loop-rest-preserved c =
           (c.in_ok-drive.ensures.means nets reads)
           (at_drop_more (rests_as_bits nets) rests c.loop-rest.rest-index none c.loop-rest-test.true)
           (c.loop-rest.invariant.rest nets (c.in_ok-drive.ensures.extends.reads nets reads)));
+      declares = λ registers declared.
+          let before = c.loop-rest.invariant.declares registers declared in
+          let when = still_has registers _ _ _ c.loop-rest.invariant.extends (declared.each c.loop-rest.rest-index none c.loop-rest-test.true) in
+          let P : List Ref → Type 0 = λ row. DeclaresRow registers c.loop-rest.wires row in
+          let Q : List Ref → Type 0 = λ row. DeclaresRow registers c.drive.new.wires row in
+          subst Q (sym same)
+          (c.in_ok-drive.ensures.declares registers when (subst P (sym c.as_mut_slice.ensures.value) before));
     }

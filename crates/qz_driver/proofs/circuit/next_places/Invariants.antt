@@ -1,4 +1,5 @@
-use Rattle.std.proofs.Common.{◌≡◌, drop, length}
+use Rattle.std.proofs.Common.{ℕ, ◌≡◌, drop, length}
+use Rattle.qz_driver.specs.Driven.{DeclaresRests, DeclaresRow}
 use Rattle.qz_driver.specs.Verilog.{Nets}
 use Rattle.qz_driver.specs.WireTable.{Reads, Extends}
 use Rattle.qz_driver.specs.Driven.{rests_as_bits, AreDrivenAfter}
@@ -10,4 +11,5 @@ invariant-loop-rest l = record {
   count : length l.nexts.items ≡ l.places;
   rest : (nets : Nets) → Reads nets l.wires →
       AreDrivenAfter nets (rests_as_bits nets (drop l.rest-index l.rests)) l.nexts.items (rests_as_bits nets l.rests);
+  declares : (registers : ℕ) → DeclaresRests registers l.fn.wires l.rests → DeclaresRow registers l.wires l.nexts.items;
 }

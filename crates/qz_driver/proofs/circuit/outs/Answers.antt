@@ -1,5 +1,7 @@
 use Rattle.std.proofs.Common.{◌≡◌, ◌+◌, List, length, drop, ap, ◌∙◌, sym, subst, get_or}
 use Rattle.std.proofs.lemmas.List.{at_drop_more}
+use Rattle.qz_driver.proofs.Declaring.{still_has, row_stays}
+use Rattle.qz_driver.specs.Driven.{DeclaresRow}
 use Rattle.qz_driver.specs.declared.verilog.Ref.{Ref}
 use Rattle.qz_driver.specs.declared.verilog.Ref.TheVariants.{Reg}
 use Rattle.qz_driver.specs.declared.parts.DrivenWrite.{DrivenWrite}
@@ -30,4 +32,15 @@ loop-write-preserved c =
           (c.in_ok-drive.ensures.means nets reads)
           (at_drop_more (writes_as_bits nets) writes c.loop-write.write-index none c.loop-write-test.true)
           (c.loop-write.invariant.rest nets (c.and.ensures.extends.reads nets at_and)));
+      declares = λ registers declared.
+          let before = c.loop-write.invariant.declares registers declared in
+          let within = c.loop-write-test.true in
+          let guard = still_has registers _ _ _ c.loop-write.invariant.extends (declared.guards c.loop-write.write-index none within) in
+          let value = still_has registers _ _ _ c.loop-write.invariant.extends (declared.values c.loop-write.write-index none within) in
+          let driven = c.in_ok-driven.ensures.declares registers before.sound guard value in
+          let P : List Ref → Type 0 = λ row. DeclaresRow registers c.and.new.self row in
+          let Q : List Ref → Type 0 = λ row. DeclaresRow registers c.drive.new.wires row in
+          subst Q (sym same)
+          (c.in_ok-drive.ensures.declares registers driven.has
+          (subst P (sym c.as_mut_slice.ensures.value) (row_stays registers _ _ c.and.ensures.extends driven.sound _ before)));
     }

@@ -1,4 +1,5 @@
-use Rattle.std.proofs.Common.{◌≡◌, drop, length}
+use Rattle.std.proofs.Common.{ℕ, ◌≡◌, drop, length}
+use Rattle.qz_driver.specs.Driven.{DeclaresWrites, DeclaresRow}
 use Rattle.qz_driver.specs.Verilog.{Nets}
 use Rattle.qz_driver.specs.WireTable.{Reads, Extends}
 use Rattle.qz_driver.specs.Driven.{writes_as_bits, AreDrivenAfter}
@@ -10,4 +11,5 @@ invariant-loop-write l = record {
   count : length l.outs.items ≡ l.count;
   rest : (nets : Nets) → Reads nets l.wires →
       AreDrivenAfter nets (writes_as_bits nets (drop l.write-index l.writes)) l.outs.items (writes_as_bits nets l.writes);
+  declares : (registers : ℕ) → DeclaresWrites registers l.fn.wires l.writes → DeclaresRow registers l.wires l.outs.items;
 }
