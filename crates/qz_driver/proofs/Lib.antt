@@ -26,3 +26,4 @@ pub mod Declaring
 mod CoreLemmas
 pub mod RestsLemmas
 pub mod Settling
+pub mod FirstSources
