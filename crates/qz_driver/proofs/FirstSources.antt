@@ -157,8 +157,8 @@ module _ (formals : List Formal) where
   cored : (s : SourceStmt) → Claim s
   cored = ind-SourceStmt Claim (λ x y is. subst (λ z. Claim (roll-SourceStmt z)) is (λ places loops e.
       subst (λ (c : ℕ → ℕ → Core). Cored (length formals) places (c places loops))
-          (sym (fold-roll-SourceStmt (ℕ → ℕ → Core) (node_core formals) (bare y)))
-          (at_node y places loops (sym (fold-roll-SourceStmt Bool (node_emits formals) (bare y)) ∙ e))))
+      (sym (fold-roll-SourceStmt (ℕ → ℕ → Core) (node_core formals) (bare y)))
+      (at_node y places loops (sym (fold-roll-SourceStmt Bool (node_emits formals) (bare y)) ∙ e))))
 
   cored_all : (parts : List SourceStmt) (places loops : ℕ) → list_all (λ emits. emits) (map (emits_formals formals) parts) ≡ true
       → AreCored (length formals) places (in_order (map (core formals) parts) places loops)
