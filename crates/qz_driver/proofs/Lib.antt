@@ -4,3 +4,5 @@ mod FormalLemmas
 mod SourceLemmas
 mod InstantLemmas
 mod CoreLemmas
+mod VerdictLemmas
+mod AnswerLemmas

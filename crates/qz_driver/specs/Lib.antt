@@ -6,4 +6,5 @@ pub mod Grammar
 pub mod Reading
 pub mod CoreTree
 pub mod Typing
+pub mod Verdicts
 pub mod Stops
