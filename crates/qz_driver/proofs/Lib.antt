@@ -27,3 +27,5 @@ mod CoreLemmas
 pub mod RestsLemmas
 pub mod Settling
 pub mod FirstSources
+mod VerdictLemmas
+mod AnswerLemmas

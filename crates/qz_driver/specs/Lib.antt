@@ -6,6 +6,7 @@ pub mod Grammar
 pub mod Reading
 pub mod CoreTree
 pub mod Typing
+pub mod Verdicts
 pub mod Stops
 pub mod Mirror
 pub mod FirstLanguage

@@ -1,0 +1,8 @@
+use Rattle.qz_driver.proofs.VerdictLemmas.{not_the_module, no_source_not_built}
+use Rattle.qz_driver.proofs.build.asked_module.Goals as goal
+
+pub returns-in-Ok-clause-none : goal.returns-in-Ok-clause-none
+returns-in-Ok-clause-none c = not_the_module c.args.name.now c.args.bytes.now c.in-Ok.source c.in-Ok.ensures.read c.typed.result c.typed.ensures.none
+
+pub returns-in-Err-clause-none : goal.returns-in-Err-clause-none
+returns-in-Err-clause-none c = no_source_not_built c.args.name.now c.args.bytes.now c.in-Err.fault c.in-Err.ensures.none
