@@ -15,6 +15,7 @@ use Rattle.qz_driver.specs.declared.status.Status.TheVariants as status
 use Rattle.qz_driver.specs.Commands.{Request}
 use Rattle.qz_driver.specs.Causes.{Cause, Usage, Absent, NotBuilt, InstantLoop, cause_of}
 use Rattle.qz_driver.specs.Verdicts.{IsNotBuilt, IsInstant, IsBuilt, IsAgainstBytes}
+use Rattle.qz_driver.specs.Texts.{HasCircuit, TextFrom, HoldsCircuit}
 use Rattle.qz_driver.specs.Stops.{MadeFrom, StopsAt, IsOfBytes}
 use Rattle.qz_driver.specs.Answers.{Seen, IsThere, OfFile, CanStand, IsPutAnswer}
 use Rattle.qz_driver.proofs.VerdictLemmas.{not_built_or_built, instant_or_built, too_long_not_built}
@@ -41,6 +42,19 @@ module _ (asked : Request) (old : Seen) where
   }
   built_of got.Absent told built = absurd built
   built_of got.TooLong told built = absurd built
+
+  -- what is put is the text of a circuit that does the program of the bytes
+  pub does_of : (found : Got) → Told asked old found → (text : List ℕ) (held : Option (List ℕ)) → (IsSome old.held → held ≡ Some text)
+      → TextFrom asked.name found text → OfFile asked old (λ bytes. HoldsCircuit asked.name bytes held)
+  does_of (got.Bytes b) told text held put has = record {
+    held = λ (bytes : List ℕ) (e : held_under old.held asked.file ≡ Some bytes).
+        let known = is_told old.held asked.file bytes e in
+        let same : b.items ≡ bytes = same_bytes b.items bytes (told.bytes known) e in
+        let P : List ℕ → Type 0 = λ bs. HoldsCircuit asked.name bs held in
+        subst P same (record { text = text; put = put known; circuit = has });
+  }
+  does_of got.Absent told text held put has = absurd has
+  does_of got.TooLong told text held put has = absurd has
 
   of_bytes : (items : List ℕ) (cause : Cause) → IsThere asked old → ((bytes : List ℕ) → held_under old.held asked.file ≡ Some bytes → items ≡ bytes)
       → IsOfBytes asked.name asked.file items cause → CanStand asked old cause

@@ -29,3 +29,4 @@ pub mod Settling
 pub mod FirstSources
 mod VerdictLemmas
 mod AnswerLemmas
+mod TextLemmas

@@ -7,6 +7,7 @@ use Rattle.qz_driver.specs.declared.status.Status.{Status}
 use Rattle.qz_driver.specs.declared.status.Status.TheVariants as status
 use Rattle.qz_driver.specs.Commands.{Request, verilog_file}
 use Rattle.qz_driver.specs.Verdicts.{IsNotBuilt, IsInstant, IsBuilt, IsAgainstBytes}
+use Rattle.qz_driver.specs.Texts.{HoldsCircuit}
 use Rattle.qz_driver.specs.Causes.{Cause, Usage, Absent, NotBuilt, InstantLoop, line_of}
 
 -- what the files and the sink tell at a moment
@@ -124,6 +125,7 @@ pub record IsDone (asked : Option Request) (old new : Seen) : Type 0 where
   pub words : asked ≡ Some request
   pub there : IsThere request old
   pub built : OfFile request old (λ bytes. IsBuilt request.name bytes)
+  pub does : OfFile request old (λ bytes. HoldsCircuit request.name bytes (held_under new.held (verilog_file request.name)))
   pub nothing_written : WritesNothing old new
   pub others : KeepsOthers (verilog_file request.name) old new
 

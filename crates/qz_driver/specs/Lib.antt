@@ -22,3 +22,4 @@ pub mod Driven
 pub mod Implements
 pub mod RestsBelow
 pub mod SettlesOnce
+pub mod Texts
