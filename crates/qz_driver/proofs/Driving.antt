@@ -1,15 +1,11 @@
 -- Nets that are driven by the entries of a list, one after the other.
-use Rattle.std.proofs.Common.{◌≡◌, ℕ, Bool, true, false, ◌==◌, ◌&&◌, ◌||◌, List, ◌∷◌, ◌++◌, length, take, drop, get_or, refl, ap, ◌∙◌, subst, sym, arith}
+use Rattle.std.proofs.Common.{◌≡◌, ℕ, Bool, ◌==◌, ◌&&◌, ◌||◌, List, ◌∷◌, ◌++◌, length, take, drop, get_or, ap, ◌∙◌, subst, sym, arith}
 use Rattle.std.proofs.lemmas.Grind.{common_steps}
+use Rattle.std.proofs.Math.Bool.{or_assoc}
 use Rattle.qz_driver.specs.declared.verilog.Ref.{Ref}
 use Rattle.qz_driver.specs.Verilog.{Nets, bit_at}
 use Rattle.qz_driver.specs.Mirror.{Bits, is_driven}
 use Rattle.qz_driver.specs.Driven.{AreDrivenAfter, IsDrivenMore}
-
-or_swap : (a b c : Bool) → ((a || b) || c) ≡ (b || (a || c))
-or_swap true true c = refl
-or_swap true false c = refl
-or_swap false b c = refl
 
 -- a part of a list that is the whole, after a write
 pub whole : (n : ℕ) (new old : List Ref) → n ≡ length old → length new ≡ length old → take n (new ++ drop (length new) old) ≡ new
@@ -19,8 +15,8 @@ pub driven_step : (nets : Nets) (number : ℕ) (more : Ref) (guard : Bool) (rest
     → length new ≡ length old → bit_at nets more ≡ guard → IsDrivenMore nets number more old new
     → AreDrivenAfter nets ((number, guard) ∷ rest) old all → AreDrivenAfter nets rest new all
 driven_step nets number more guard rest all old new same is drives before = λ k d within.
-    ap (λ b. b || is_driven rest k) (drives k d within ∙ ap (λ b. ((number == k) && b) || bit_at nets (get_or old k d)) is)
-    ∙ or_swap ((number == k) && guard) (bit_at nets (get_or old k d)) (is_driven rest k)
+    ap (λ b. b || is_driven rest k) (drives k d within ∙ ap (λ b. bit_at nets (get_or old k d) || ((number == k) && b)) is)
+    ∙ or_assoc (bit_at nets (get_or old k d)) ((number == k) && guard) (is_driven rest k)
     ∙ before k d (omega arith)
 
 -- the same, over the row as it stood before and with the entry taken from what is left

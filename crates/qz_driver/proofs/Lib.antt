@@ -27,3 +27,6 @@ mod CoreLemmas
 pub mod RestsLemmas
 pub mod Settling
 pub mod FirstSources
+mod VerdictLemmas
+mod AnswerLemmas
+mod TextLemmas

@@ -6,6 +6,8 @@ use Rattle.qz_io.specs.Held.{Held, held_under}
 use Rattle.qz_driver.specs.declared.status.Status.{Status}
 use Rattle.qz_driver.specs.declared.status.Status.TheVariants as status
 use Rattle.qz_driver.specs.Commands.{Request, verilog_file}
+use Rattle.qz_driver.specs.Verdicts.{IsNotBuilt, IsInstant, IsBuilt, IsAgainstBytes}
+use Rattle.qz_driver.specs.Texts.{HoldsCircuit}
 use Rattle.qz_driver.specs.Causes.{Cause, Usage, Absent, NotBuilt, InstantLoop, line_of}
 
 -- what the files and the sink tell at a moment
@@ -34,13 +36,17 @@ IsMissing asked old = IsSome old.held → held_under old.held asked.file ≡ Non
 abbrev pub IsThere : Request → Seen → Type 0
 IsThere asked old = IsSome old.held → held_under old.held asked.file ≢ None
 
--- a cause that can stand against the request: the file is absent where it isn't held, and the other causes
--- are of bytes that are held
+-- a fact on the bytes of the file, as far as what is held is told
+pub record OfFile (asked : Request) (old : Seen) (P : List ℕ → Type 0) : Type 0 where
+  pub held : (bytes : List ℕ) → held_under old.held asked.file ≡ Some bytes → P bytes
+
+-- a cause that stands against the request: the file is absent where it isn't held, and the other causes are
+-- those of the bytes that are held
 abbrev pub CanStand : Request → Seen → Cause → Type 0
 CanStand asked old Usage = ⊥
 CanStand asked old (Absent file) = (file ≡ asked.file) × IsMissing asked old
-CanStand asked old (NotBuilt file) = (file ≡ asked.file) × IsThere asked old
-CanStand asked old (InstantLoop number name) = IsThere asked old
+CanStand asked old (NotBuilt file) = (file ≡ asked.file) × IsThere asked old × OfFile asked old (λ bytes. IsNotBuilt asked.name bytes)
+CanStand asked old (InstantLoop number who) = IsThere asked old × OfFile asked old (λ bytes. IsInstant asked.name bytes number who)
 
 -- what words and held bytes have against them
 abbrev pub IsAgainst : Option Request → Seen → Cause → Type 0
@@ -91,6 +97,7 @@ pub record IsPutFault (asked : Option Request) (old new : Seen) : Type 0 where
   pub request : Request
   pub words : asked ≡ Some request
   pub there : IsThere request old
+  pub built : OfFile request old (λ bytes. IsBuilt request.name bytes)
   pub rose : Rose old.write_faults new.write_faults
   pub nothing_written : WritesNothing old new
   pub others : KeepsOthers (verilog_file request.name) old new
@@ -117,6 +124,8 @@ pub record IsDone (asked : Option Request) (old new : Seen) : Type 0 where
   pub request : Request
   pub words : asked ≡ Some request
   pub there : IsThere request old
+  pub built : OfFile request old (λ bytes. IsBuilt request.name bytes)
+  pub does : OfFile request old (λ bytes. HoldsCircuit request.name bytes (held_under new.held (verilog_file request.name)))
   pub nothing_written : WritesNothing old new
   pub others : KeepsOthers (verilog_file request.name) old new
 
@@ -129,6 +138,12 @@ pub record IsComplete (asked : Option Request) (old new : Seen) (result : Status
   pub there : (request : Request) → asked ≡ Some request → IsSome old.held → held_under old.held request.file ≢ None →
       ¬ Rose old.read_faults new.read_faults → ¬ Rose old.write_faults new.write_faults → ¬ Rose old.faults new.faults →
       (result ≡ status.Refused) ⊎ (result ≡ status.Done) ⊎ (result ≡ status.NoMemory)
+  pub refused : (request : Request) (bytes : List ℕ) → asked ≡ Some request → held_under old.held request.file ≡ Some bytes
+      → IsAgainstBytes request.name bytes → ¬ Rose old.read_faults new.read_faults → ¬ Rose old.faults new.faults
+      → (result ≡ status.Refused) ⊎ (result ≡ status.NoMemory)
+  pub done : (request : Request) (bytes : List ℕ) → asked ≡ Some request → held_under old.held request.file ≡ Some bytes
+      → IsBuilt request.name bytes → ¬ Rose old.read_faults new.read_faults → ¬ Rose old.write_faults new.write_faults
+      → (result ≡ status.Done) ⊎ (result ≡ status.NoMemory)
 
 -- what putting the file answers: a count rose only where it failed, and want of memory leaves what is held
 abbrev pub IsPutAnswer : Status → ℕ → ℕ → Option Held → Option Held → Type 0

@@ -1,5 +1,5 @@
 -- What the words of the command line ask for.
-use Rattle.std.specs.Prelude.{ℕ, Bool, true, false, ◌==◌, ◌||◌, ◌++◌, List, [], ◌∷◌, map, String, string_bytes, bytes_eq, Option, Some, None, codes, if◌then◌else◌}
+use Rattle.std.specs.Prelude.{ℕ, Bool, false, ◌==◌, ◌||◌, ◌++◌, List, [], ◌∷◌, map, String, string_bytes, bytes_eq, Option, Some, None, codes, if◌then◌else◌}
 use Rattle.std.specs.declared.alloc.Global.{Global}
 
 -- the module's name and the file, as bytes

@@ -29,7 +29,7 @@ AreDrivenAfter nets left row bits =
 abbrev pub IsDrivenMore : Nets → ℕ → Ref → List Ref → List Ref → Type 0
 IsDrivenMore nets number more old new =
     (k : ℕ) (d : Ref) → k < length new
-    → bit_at nets (slice_index_or new k d) ≡ (((number == k) && bit_at nets more) || bit_at nets (slice_index_or old k d))
+    → bit_at nets (slice_index_or new k d) ≡ (bit_at nets (slice_index_or old k d) || ((number == k) && bit_at nets more))
 
 -- a sound table that has the nets of these places
 pub record DeclaresRests (registers : ℕ) (wires : Wires) (rests : List DrivenPlace) : Type 0 where

@@ -6,6 +6,7 @@ pub mod Grammar
 pub mod Reading
 pub mod CoreTree
 pub mod Typing
+pub mod Verdicts
 pub mod Stops
 pub mod Mirror
 pub mod FirstLanguage
@@ -21,3 +22,4 @@ pub mod Driven
 pub mod Implements
 pub mod RestsBelow
 pub mod SettlesOnce
+pub mod Texts

@@ -107,6 +107,7 @@ fn put<F: Files>(alloc: Global, name: &str, text: &[u8], files: &mut F) -> Statu
     ensures others { (other : List ℕ) → other ≢ verilog_file name.now →
         held_under (F.held files.new) other ≡ held_under (F.held files.old) other }
     ensures answers { IsPutAnswer result (F.write_faults files.old) (F.write_faults files.new) (F.held files.old) (F.held files.new) }
+    ensures put { result ≡ Status.Done → IsSome (F.held files.old) → held_under (F.held files.new) (verilog_file name.now) ≡ Some text.now }
     ensures read_faults { F.read_faults files.new ≡ F.read_faults files.old }
     ensures missed { F.missed files.new ≡ F.missed files.old }
 {

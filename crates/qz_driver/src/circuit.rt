@@ -166,7 +166,7 @@ fn drive(wires: &mut Wires, nets: &mut [Ref], number: usize, more: Ref) -> Resul
         DeclaresRow registers wires.new nets.new) }
 {
     if number < nets.len() {
-        nets[number] = wires.or(more, nets[number])?;
+        nets[number] = wires.or(nets[number], more)?;
     }
     Ok(())
 }

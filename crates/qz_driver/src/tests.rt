@@ -1,4 +1,7 @@
 //! The answers of the call over files and a sink in memory, row by row.
+
+ghost use Rattle.std.specs.Prelude.{◌≤◌, ◌<◌};
+
 use crate::{Status, quartzc};
 use qz_io::{MemFiles, MemSink};
 use std::alloc::{AllocError, Global};
@@ -162,5 +165,121 @@ fn answers(rt: HostRuntime) -> Result<(), Fail> {
     for row in &rows {
         assert_row(&rt, rt.alloc(), row)?;
     }
+    Ok(())
+}
+
+/// Texts that are refused in `build T t.qz`, and the lines.
+static REFUSED: [(&str, &str); 10] = [
+    ("", "t.qz: not built yet\n"),
+    ("module T(event !o){ emit o; } }", "t.qz: not built yet\n"),
+    ("module T(event !o){ emit x; }", "t.qz: not built yet\n"),
+    (
+        "module T(event !o, event !o){ emit o; }",
+        "t.qz: not built yet\n",
+    ),
+    ("module U(event !o){ emit o; }", "t.qz: not built yet\n"),
+    (
+        "module T(event !o){ emit o; } // o",
+        "t.qz: not built yet\n",
+    ),
+    ("module T(event !\u{e9}){ }", "t.qz: not built yet\n"),
+    ("module T(event !o,){ emit o; }", "t.qz: not built yet\n"),
+    (
+        "module T(event !o){ loop { pause; loop { emit o; } } }",
+        "loop 1 of T may end at once\n",
+    ),
+    (
+        "module T(event !o){ pause; loop loop emit o; }",
+        "loop 0 of T may end at once\n",
+    ),
+];
+
+#[test]
+fn refusals(rt: HostRuntime) -> Result<(), Fail> {
+    for (text, line) in &REFUSED {
+        assert_row(&rt, rt.alloc(), &refused(text, line))?;
+    }
+    Ok(())
+}
+
+/// The status of `build D t.qz` where these bytes are held.
+fn status_of(alloc: Global, bytes: &[u8]) -> Result<Status, AllocError> {
+    let mut files = MemFiles::new(alloc);
+    let mut sink = MemSink::new(alloc);
+    files.held.push((
+        String::from_str(alloc, "t.qz")?,
+        Vec::from_slice(alloc, bytes)?,
+    ))?;
+    let words = texts(alloc, &["build", "D", "t.qz"])?;
+    Ok(quartzc(alloc, words.as_slice(), &mut files, &mut sink))
+}
+
+/// The text, and then the part so many times.
+fn repeated(alloc: Global, text: &str, part: &str, times: u32) -> Result<String, AllocError> {
+    let mut whole = String::from_str(alloc, text)?;
+    for _ in 0..times {
+        whole.push_str(part)?;
+    }
+    Ok(whole)
+}
+
+/// A module with so many blocks in its block, each in the one before it.
+fn nested(alloc: Global, blocks: u32) -> Result<String, AllocError>
+    requires { blocks < 1000 }
+{
+    let opened = repeated(alloc, "module D(event !o){", "{", blocks)?;
+    repeated(alloc, opened.as_str(), "}", blocks + 1)
+}
+
+/// A module with so many statements that are `nothing`, and one that emits.
+fn sized(alloc: Global, statements: u32) -> Result<String, AllocError> {
+    let mut text = repeated(alloc, "module D(event !o){", "nothing;", statements)?;
+    text.push_str("emit o;}")?;
+    Ok(text)
+}
+
+/// A module with so many formals.
+fn with_formals(alloc: Global, formals: u32) -> Result<String, AllocError> {
+    let mut text = String::from_str(alloc, "module D(event !o")?;
+    for number in 1..formals {
+        let formal = format!(in alloc; ",event !o{number}")?;
+        text.push_str(formal.as_str())?;
+    }
+    text.push_str("){}")?;
+    Ok(text)
+}
+
+/// A module of so many bytes, from 21 on.
+fn of_bytes(alloc: Global, bytes: u32) -> Result<String, AllocError>
+    requires { 21 ≤ bytes }
+{
+    repeated(alloc, "module D(event !o){ }", " ", bytes - 21)
+}
+
+#[test]
+fn limits(rt: HostRuntime) -> Result<(), Fail> {
+    let alloc = rt.alloc();
+    let within = [
+        nested(alloc, 127)?,
+        with_formals(alloc, 256)?,
+        of_bytes(alloc, 1_048_576)?,
+        sized(alloc, 49_997)?,
+    ];
+    for text in &within {
+        assert_eq!(rt; status_of(alloc, text.as_bytes())?, Status::Done);
+    }
+    let above = [
+        nested(alloc, 128)?,
+        with_formals(alloc, 257)?,
+        of_bytes(alloc, 1_048_577)?,
+        sized(alloc, 49_998)?,
+    ];
+    for text in &above {
+        assert_eq!(rt; status_of(alloc, text.as_bytes())?, Status::Refused);
+    }
+    assert_eq!(rt;
+        status_of(alloc, b"module D(event !\xff){}")?,
+        Status::Refused
+    );
     Ok(())
 }

@@ -1,6 +1,5 @@
 -- A name's characters, encoded again, are the bytes of its text.
 use Rattle.std.proofs.lemmas.Str.{encodes-chars}
-use Rattle.qz_driver.specs.Causes.{cause_of, line_of}
 use Rattle.qz_driver.proofs.refusal.Refusal.line.Goals as goal
 
 pub returns-in-InstantLoop : goal.returns-in-InstantLoop

@@ -1,0 +1,33 @@
+-- The text of what is built, put together.
+use Rattle.std.proofs.Common.{◌≡◌, ℕ, List, Result, Ok, Err, IfOk, String, string_bytes, sym, subst}
+use Rattle.std.specs.declared.alloc.Global.{Global}
+use Rattle.std.specs.declared.alloc.AllocError.{AllocError}
+use Rattle.qz_syntax.specs.declared.modules.Module.{Module}
+use Rattle.qz_driver.specs.declared.source.SourceModule.{SourceModule}
+use Rattle.qz_driver.specs.declared.reader.NoSource.{NoSource}
+use Rattle.qz_driver.specs.declared.verilog.VModule.{VModule}
+use Rattle.qz_driver.specs.FirstLanguage.{IsFirst}
+use Rattle.qz_driver.specs.Implements.{Implements}
+use Rattle.qz_driver.specs.VerilogText.{text_of}
+use Rattle.qz_driver.specs.Grammar.{FitsModule}
+use Rattle.qz_driver.specs.CoreTree.{IsAsked, core_module}
+use Rattle.qz_driver.specs.Texts.{IsTextOfProgram}
+use Rattle.qz_driver.proofs.FirstSources.{first_source}
+use Rattle.qz_driver.proofs.DoingPrograms.{implementation_does_program}
+
+-- what typing gives is a module of the first language
+pub first_of_typed : (name : List ℕ) (source : SourceModule) (r : Result Module NoSource) → FitsModule source
+    → IfOk r (λ m. IsAsked name source) → IfOk r (λ m. m ≡ core_module source) → IfOk r IsFirst
+first_of_typed name source (Ok m) fits asked core = subst IsFirst (sym core) (first_source name source asked fits.formals)
+first_of_typed name source (Err fault) fits asked core = tt
+
+-- the text of a circuit that implements a module of the first language
+pub text_of_implementation : (program : Module) (v : VModule) (r : Result (String Global) AllocError) → IsFirst program → Implements v program
+    → IfOk r (λ text. string_bytes text ≡ text_of v) → IfOk r (λ text. IsTextOfProgram program (string_bytes text))
+text_of_implementation program v (Ok text) first implements written = record {
+  circuit = v;
+  valid = implements.valid first;
+  does = implementation_does_program v program first (implements.valid first) implements;
+  written = written;
+}
+text_of_implementation program v (Err fault) first implements written = tt

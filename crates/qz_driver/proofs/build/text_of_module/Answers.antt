@@ -1,0 +1,5 @@
+use Rattle.qz_driver.proofs.TextLemmas.{text_of_implementation}
+use Rattle.qz_driver.proofs.build.text_of_module.Goals as goal
+
+pub returns : goal.returns
+returns c = text_of_implementation c.args.program c.in_ok-circuit.circuit c.write_v.result c.requires c.in_ok-circuit.ensures c.write_v.ensures
