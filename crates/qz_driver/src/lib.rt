@@ -10,6 +10,8 @@ pub mod first_runs;
 mod instant_loop;
 mod laws;
 mod parts;
+#[cfg(test)]
+mod programs;
 mod reader;
 mod refusal;
 mod source;

@@ -95,7 +95,7 @@ fn always(file_fails: Option<u64>, status: Status, put: Option<&'static str>) ->
     }
 }
 
-fn texts(alloc: Global, words: &[&str]) -> Result<Vec<String>, AllocError> {
+pub fn texts(alloc: Global, words: &[&str]) -> Result<Vec<String>, AllocError> {
     let mut texts = Vec::new(alloc);
     for word in words {
         texts.push(String::from_str(alloc, word)?)?;
@@ -104,7 +104,7 @@ fn texts(alloc: Global, words: &[&str]) -> Result<Vec<String>, AllocError> {
 }
 
 /// The bytes that are held under a name.
-fn held<'f>(files: &'f MemFiles, name: &str) -> Option<&'f [u8]> {
+pub fn held<'f>(files: &'f MemFiles, name: &str) -> Option<&'f [u8]> {
     for (other, bytes) in files.held.as_slice() {
         if other.as_str() == name {
             return Some(bytes.as_slice());
@@ -215,7 +215,7 @@ fn status_of(alloc: Global, bytes: &[u8]) -> Result<Status, AllocError> {
 }
 
 /// The text, and then the part so many times.
-fn repeated(alloc: Global, text: &str, part: &str, times: u32) -> Result<String, AllocError> {
+pub fn repeated(alloc: Global, text: &str, part: &str, times: u32) -> Result<String, AllocError> {
     let mut whole = String::from_str(alloc, text)?;
     for _ in 0..times {
         whole.push_str(part)?;
