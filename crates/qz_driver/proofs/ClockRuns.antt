@@ -21,7 +21,7 @@ use Rattle.qz_driver.specs.Does.{port_of, values_of, DoesProgram}
 use Rattle.qz_driver.specs.BitRuns.{BitState, bit_row, next_state}
 use Rattle.qz_driver.proofs.SettleLemmas.{settles_once}
 use Rattle.qz_driver.proofs.PlaceLemmas.{in_range}
-use Rattle.qz_driver.proofs.FirstSteps.{Follows, initial_follows, step_follows, step_only, driven_by_both, moved_by_both, follows_alike}
+use Rattle.qz_driver.proofs.FirstSteps.{Follows, initial_follows, after_step, step_follows, step_only, driven_by_both, moved_by_both, follows_alike}
 
 -- there is a clock, whatever the registers hold
 clock_there : (v : VModule) → IsValid v → (registers : Control) → (outs : List Bool) × (next : Control) × IsClock v registers outs next
@@ -101,28 +101,46 @@ module _ (m : Module) (first : IsFirst m) (v : VModule) where
       ∙ moved_by_both m first c (state_of registers) h place)
 
   module _ (clocks_as : (registers : Control) (outs : List Bool) (next : Control) → IsClock v registers outs next → ClocksAs registers outs next) where
-    runs_there : (rows : List (List Bool)) (registers : Control) (c : Configuration) → Follows m first c (state_of registers) → ClocksFrom v registers rows
-        → (passed : List Configuration) × RunsFrom (program_of m) c (replicate (length rows) []) (values_of rows) passed
-    runs_there [] registers c h run = ([], tt)
-    runs_there (outs ∷ rows) registers c h run =
-        let clock = clocks_as registers outs run.0 run.1 in
-        let step = step_follows m first c (state_of registers) h in
-        let rest = runs_there rows run.0 step.0 (clock_follows registers outs run.0 c step.0 h clock step.2) run.2 in
-        (step.0 ∷ rest.0, (subst (λ row. IsStep (program_of m) c [] (map truth_of row) step.0) (sym (clock_row registers outs run.0 c h clock)) step.1, rest.1))
+    -- the configurations that a run of the program passes beside these clocks
+    abbrev passed_by : (rows : List (List Bool)) (registers : Control) (c : Configuration) → ClocksFrom v registers rows → List Configuration
+    passed_by [] registers c run = []
+    passed_by (outs ∷ rows) registers c run =
+        let next = after_step m first c (state_of registers) in
+        next ∷ passed_by rows run.0 next run.2
 
-    only_runs : (rows : List (List Bool)) (registers : Control) (c : Configuration) → Follows m first c (state_of registers) → ClocksFrom v registers rows
-        → (outs : List (List Value)) (passed : List Configuration) → RunsFrom (program_of m) c (replicate (length rows) []) outs passed → outs ≡ values_of rows
-    only_runs [] registers c h run [] [] others = refl
-    only_runs [] registers c h run [] (next ∷ passed) others = absurd others
-    only_runs [] registers c h run (out ∷ outs) passed others = absurd others
-    only_runs (row ∷ rows) registers c h run [] passed others = absurd others
+    follows_on : (outs : List Bool) (registers : Control) (c : Configuration) → Follows m first c (state_of registers)
+        → (next : Control) → IsClock v registers outs next → Follows m first (after_step m first c (state_of registers)) (state_of next)
+    follows_on outs registers c h next clock =
+        clock_follows registers outs next c (after_step m first c (state_of registers)) h (clocks_as registers outs next clock)
+        (step_follows m first c (state_of registers) h).1
+
+    runs_there : (rows : List (List Bool)) (registers : Control) (c : Configuration) → Follows m first c (state_of registers)
+        → (run : ClocksFrom v registers rows)
+        → RunsFrom (program_of m) c (replicate (length rows) []) (values_of rows) (passed_by rows registers c run)
+    runs_there [] registers c h run = tt
+    runs_there (outs ∷ rows) registers c h run =
+        let next = after_step m first c (state_of registers) in (
+          subst (λ row. IsStep (program_of m) c [] (map truth_of row) next) (sym (clock_row registers outs run.0 c h (clocks_as registers outs run.0 run.1)))
+              (step_follows m first c (state_of registers) h).0,
+          runs_there rows run.0 next (follows_on outs registers c h run.0 run.1) run.2,
+        )
+
+    only_runs : (rows : List (List Bool)) (registers : Control) (c : Configuration) → Follows m first c (state_of registers)
+        → (run : ClocksFrom v registers rows) (outs : List (List Value)) (past : List Configuration)
+        → RunsFrom (program_of m) c (replicate (length rows) []) outs past → (outs ≡ values_of rows) × (past ≡ passed_by rows registers c run)
+    only_runs [] registers c h run [] [] others = (refl, refl)
+    only_runs [] registers c h run [] (next ∷ past) others = absurd others
+    only_runs [] registers c h run (out ∷ outs) past others = absurd others
+    only_runs (row ∷ rows) registers c h run [] past others = absurd others
     only_runs (row ∷ rows) registers c h run (out ∷ outs) [] others = absurd others
-    only_runs (row ∷ rows) registers c h run (out ∷ outs) (next ∷ passed) others =
-        let clock = clocks_as registers row run.0 run.1 in
+    only_runs (row ∷ rows) registers c h run (out ∷ outs) (next ∷ past) others =
         let step = step_only m first c (state_of registers) h out next others.0 in
-        ap₂ (λ (one : List Value) (more : List (List Value)). one ∷ more)
-        (step.0 ∙ ap (map truth_of) (sym (clock_row registers row run.0 c h clock)))
-        (only_runs rows run.0 next (clock_follows registers row run.0 c next h clock step.1) run.2 outs passed others.1)
+        let rest = only_runs rows run.0 (after_step m first c (state_of registers)) (follows_on row registers c h run.0 run.1) run.2 outs past
+        (subst (λ d. RunsFrom (program_of m) d (replicate (length rows) []) outs past) step.1 others.1) in (
+          ap₂ (λ (one : List Value) (more : List (List Value)). one ∷ more)
+              (step.0 ∙ ap (map truth_of) (sym (clock_row registers row run.0 c h (clocks_as registers row run.0 run.1)))) rest.0,
+          ap₂ (λ (one : Configuration) (more : List Configuration). one ∷ more) step.1 rest.1,
+        )
 
     module _ (begins : v.regs ≡ replicate places no ++ no ∷ []) where
       follows_first : (registers : Control) → BeginsWith v registers → Follows m first (initial (program_of m)) (state_of registers)
@@ -141,13 +159,14 @@ module _ (m : Module) (first : IsFirst m) (v : VModule) where
         outputs = outputs;
         runs = λ steps.
             let run = clocks_there v valid steps (first_registers v) in
-            let there = runs_there run.0 (first_registers v) (initial (program_of m)) (follows_first (first_registers v) (begins_there v)) run.1 in (
-              run.0,
-              (first_registers v, begins_there v, run.1),
-              run.2,
-              subst (λ n. (passed : List Configuration) × RunsFrom (program_of m) (initial (program_of m)) (replicate n []) (values_of run.0) passed) run.2 there,
-            );
-        only = λ steps rows outs count run others.
-            only_runs rows run.0 (initial (program_of m)) (follows_first run.0 run.1) run.2 outs others.0
-            (subst (λ n. RunsFrom (program_of m) (initial (program_of m)) (replicate n []) outs others.0) (sym count) others.1);
+            (run.0, (first_registers v, begins_there v, run.1), run.2);
+        same = λ rows run.
+            let from = initial (program_of m) in
+            let follows = follows_first run.0 run.1 in
+            record {
+              passed = passed_by rows run.0 from run.2;
+              runs = runs_there rows run.0 from follows run.2;
+              only_outputs = λ others other. (only_runs rows run.0 from follows run.2 others other.0 other.1).0;
+              only_way = λ others past other. (only_runs rows run.0 from follows run.2 others past other).1;
+            };
       }

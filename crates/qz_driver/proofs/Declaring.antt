@@ -11,8 +11,8 @@ use Rattle.qz_driver.specs.declared.verilog.Rhs.{Rhs}
 use Rattle.qz_driver.specs.declared.wires.Wires.{Wires}
 use Rattle.qz_driver.specs.Verilog.{ReadsDeclared, IsDeclared}
 use Rattle.qz_driver.specs.WireTable.{rights, Has, IsSound, Extends}
-use Rattle.qz_driver.specs.declared.parts.DrivenWrite.{DrivenWrite}
-use Rattle.qz_driver.specs.declared.parts.DrivenPlace.{DrivenPlace}
+use Rattle.qz_driver.specs.declared.driven.DrivenWrite.{DrivenWrite}
+use Rattle.qz_driver.specs.declared.driven.DrivenPlace.{DrivenPlace}
 use Rattle.qz_driver.specs.Driven.{DeclaresRests, DeclaresWrites, DeclaresRow}
 
 -- what was declared stays so

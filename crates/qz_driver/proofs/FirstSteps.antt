@@ -28,7 +28,7 @@ use Rattle.qz_syntax.specs.declared.places.Store.{Store}
 use Rattle.qz_syntax.specs.Numbers.{places_of}
 use Rattle.qz_meaning.specs.Instances.{formal_instance}
 use Rattle.qz_meaning.specs.Scenes.{Scene, root, contains, new_store, store_from}
-use Rattle.qz_meaning.specs.Behaviors.{Met}
+use Rattle.qz_meaning.specs.Behaviors.{Met, Behavior}
 use Rattle.qz_meaning.specs.Walks.{behavior}
 use Rattle.qz_meaning.specs.Valuations.{resting_places}
 use Rattle.qz_meaning.specs.Programs.{Program, numbers_in, formals_of, program_of}
@@ -40,12 +40,13 @@ use Rattle.qz_driver.specs.Mirror.{Bits, Mirror, mirror_of, is_driven}
 use Rattle.qz_driver.specs.FirstLanguage.{is_event_output, IsFirst}
 use Rattle.qz_driver.specs.FirstWalk.{places_at, CanRest}
 use Rattle.qz_driver.specs.FirstResumes.{AreWritesOf, ResumesAs, IsStill, IsControl, AreDifferent}
-use Rattle.qz_driver.specs.BitRuns.{moved_bits, BitState, unstarted, driven_bits, bit_row, next_state}
+use Rattle.qz_driver.specs.BitRuns.{moved_bits, BitState, driven_bits, bit_row, next_state}
 use Rattle.qz_driver.proofs.BitLemmas.{or-false, is_driven-append}
 use Rattle.qz_driver.proofs.PlaceLemmas.{range-different}
 use Rattle.qz_driver.proofs.StartMirror.{Started}
 use Rattle.qz_driver.proofs.ResumeSequences.{Resumed}
 use Rattle.qz_driver.proofs.FirstResuming.{no_scene, walked}
+use Rattle.qz_driver.proofs.SameWalks.{same_behavior}
 use Rattle.qz_driver.proofs.BitVerdicts.{verdict_driven, verdict_undelayed, settled_driven}
 
 all_from : {A : Type 0} (P : A → Type 0) → ((x : A) → P x) → (xs : List A) → AllByRecursion P xs
@@ -226,9 +227,6 @@ module _ (m : Module) (first : IsFirst m) where
     place_is = (h, away);
   }
 
-  pub follows-initial : Follows (initial program) unstarted
-  follows-initial = initial_follows unstarted refl (λ k inside. refl)
-
   met_is : (c : Configuration) (state : BitState) → Follows c state → (env : Environment) → step_met program c env ≡ map output_met outputs
   met_is c state h env =
       ap₂ (λ xs ys. xs ++ ys) (ap (met_outputs outputs) h.outputs_are ∙ met_outputs_new outputs)
@@ -298,10 +296,14 @@ module _ (m : Module) (first : IsFirst m) where
   follows_there c state h =
       follows_next c state h (values_by (driven_bits bits state)) (all_from (λ n. (values_by (driven_bits bits state)).later (formal_instance n) ≡ later.Absent) (λ n. refl) outputs)
 
+  -- the configuration after a step, by the values that the bits give
+  abbrev pub after_step : Configuration → BitState → Configuration
+  after_step c state = next_configuration program c (values_by (driven_bits bits state))
+
   -- there is a step from a configuration that the state is of, to one that the next state is of
   pub step_follows : (c : Configuration) (state : BitState) → Follows c state
-      → (next : Configuration) × IsStep program c [] (map truth_of (bit_row count bits state)) next × Follows next (next_state bits state)
-  step_follows c state h = (next_configuration program c (values_by (driven_bits bits state)), step_there c state h, follows_there c state h)
+      → IsStep program c [] (map truth_of (bit_row count bits state)) (after_step c state) × Follows (after_step c state) (next_state bits state)
+  step_follows c state h = (step_there c state h, follows_there c state h)
 
   settled_at : (c : Configuration) (state : BitState) → Follows c state → (out : List Value) (next : Configuration) (s : IsStep program c [] out next)
       → AllByRecursion (λ n. IsSettledAt program (step_writes program c s.values) s.values (output_met n)) outputs
@@ -309,9 +311,18 @@ module _ (m : Module) (first : IsFirst m) where
       all_of-map (IsSettledAt program (step_writes program c s.values) s.values) output_met outputs
       (subst (λ mets. AllByRecursion (IsSettledAt program (step_writes program c s.values) s.values) mets) (met_is c state h s.values) s.solution.settled)
 
-  -- and every step has it
+  -- under all values with which nothing is delayed the configuration after it is the same
+  same_after : (c : Configuration) (state : BitState) → Follows c state → (env : Environment)
+      → AllByRecursion (λ n. env.later (formal_instance n) ≡ later.Absent) outputs → next_configuration program c env ≡ after_step c state
+  same_after c state h env absent =
+      ap₂ (λ (place : Place) (stores : List Store). record { place = place; outputs = stores })
+      (ap (λ (body : Behavior). next_place body c.place)
+      (same_behavior (scene_of program env) (scene_of program (values_by (driven_bits bits state))) count m.body first.body))
+      ((follows_next c state h env absent).outputs_are ∙ sym (follows_there c state h).outputs_are)
+
+  -- and it is the only one
   pub step_only : (c : Configuration) (state : BitState) → Follows c state → (out : List Value) (next : Configuration) → IsStep program c [] out next
-      → (out ≡ map truth_of (bit_row count bits state)) × Follows next (next_state bits state)
+      → (out ≡ map truth_of (bit_row count bits state)) × (next ≡ after_step c state)
   step_only c state h out next s = (
     known_same out (map truth_of (bit_row count bits state)) (
         sym s.outputs_are
@@ -321,9 +332,9 @@ module _ (m : Module) (first : IsFirst m) where
         (λ n k. k.now ∙ settles c state h s.values n) outputs (settled_at c state h out next s))
         ∙ row_values state
         ),
-    subst (λ d. Follows d (next_state bits state)) (sym s.next_is) (follows_next c state h s.values
+    s.next_is ∙ same_after c state h s.values
         (all_so (λ n. IsSettledAt program (step_writes program c s.values) s.values (output_met n)) (λ n. s.values.later (formal_instance n) ≡ later.Absent)
-        (λ n k. k.later ∙ undelayed c state h s.values n) outputs (settled_at c state h out next s))),
+        (λ n k. k.later ∙ undelayed c state h s.values n) outputs (settled_at c state h out next s)),
   )
 
   -- what isn't started rests nowhere

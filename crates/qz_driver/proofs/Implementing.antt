@@ -12,8 +12,8 @@ use Rattle.std.proofs.lemmas.Option.{slice_get-get_or}
 use Rattle.std.proofs.Math.ListN.{get_or-append, length-map}
 use Rattle.std.proofs.Math.Seq.{get_or-append_seam}
 use Rattle.qz_syntax.specs.declared.modules.Module.{Module}
-use Rattle.qz_driver.specs.declared.parts.DrivenWrite.{DrivenWrite}
-use Rattle.qz_driver.specs.declared.parts.DrivenPlace.{DrivenPlace}
+use Rattle.qz_driver.specs.declared.driven.DrivenWrite.{DrivenWrite}
+use Rattle.qz_driver.specs.declared.driven.DrivenPlace.{DrivenPlace}
 use Rattle.qz_driver.specs.declared.verilog.Ref.{Ref}
 use Rattle.qz_driver.specs.declared.verilog.Ref.TheVariants.{Reg}
 use Rattle.qz_driver.specs.declared.verilog.Rhs.{Rhs}

@@ -9,9 +9,9 @@ pub mod StartMirror
 pub mod ResumeMirror
 pub mod ResumeSequences
 pub mod FirstResuming
+pub mod SameWalks
 pub mod BitVerdicts
 pub mod FirstSteps
-pub mod FirstRuns
 pub mod SettleLemmas
 pub mod ClockRuns
 pub mod Driving
@@ -25,7 +25,6 @@ pub mod DoingPrograms
 pub mod Declaring
 mod CoreLemmas
 pub mod RestsLemmas
-pub mod Settling
 pub mod FirstSources
 mod VerdictLemmas
 mod AnswerLemmas

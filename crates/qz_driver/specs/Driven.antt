@@ -1,7 +1,7 @@
 -- What the walk for a circuit appends, read as bits.
 use Rattle.std.specs.Prelude.{ℕ, ◌≡◌, ◌<◌, ◌==◌, ◌&&◌, ◌||◌, List, map, length, slice_index_or}
-use Rattle.qz_driver.specs.declared.parts.DrivenWrite.{DrivenWrite}
-use Rattle.qz_driver.specs.declared.parts.DrivenPlace.{DrivenPlace}
+use Rattle.qz_driver.specs.declared.driven.DrivenWrite.{DrivenWrite}
+use Rattle.qz_driver.specs.declared.driven.DrivenPlace.{DrivenPlace}
 use Rattle.qz_driver.specs.declared.verilog.Ref.{Ref}
 use Rattle.qz_driver.specs.declared.wires.Wires.{Wires}
 use Rattle.qz_driver.specs.Mirror.{Bits, is_driven}

@@ -21,5 +21,4 @@ pub mod WireTable
 pub mod Driven
 pub mod Implements
 pub mod RestsBelow
-pub mod SettlesOnce
 pub mod Texts

@@ -12,7 +12,7 @@ ghost use Rattle.qz_driver.specs.WireTable.{Reads, Extends, Has, IsSound};
 
 use crate::control::{enter, moves};
 use crate::depth::depth;
-use crate::parts::{DrivenPlace, DrivenWrite};
+use crate::driven::{DrivenPlace, DrivenWrite};
 use crate::surface::surface;
 use crate::verilog::{Ref, VModule};
 use crate::wires::Wires;

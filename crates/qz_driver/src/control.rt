@@ -10,7 +10,7 @@ ghost use Rattle.qz_driver.specs.RestsBelow.{rests_below, all_rest_below};
 ghost use Rattle.qz_driver.specs.Driven.{rests_as_bits, DeclaresRests};
 ghost use Rattle.qz_driver.specs.Mirror.{mirror_of, bit_of, all_at_once, enter_all, ended_after, ended_all, move_all, turns_by};
 
-use crate::parts::DrivenPlace;
+use crate::driven::DrivenPlace;
 use crate::verilog::{Ref, is_true};
 use crate::wires::Wires;
 use qz_syntax::{Expr, Stmt};

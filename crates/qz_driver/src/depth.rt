@@ -8,7 +8,7 @@ ghost use Rattle.qz_driver.specs.Driven.{writes_as_bits, DeclaresWrites};
 ghost use Rattle.qz_driver.specs.Mirror.{mirror_of, resume_all, turns_by};
 
 use crate::control::{ends_after, turns};
-use crate::parts::DrivenWrite;
+use crate::driven::DrivenWrite;
 use crate::surface::surface;
 use crate::verilog::Ref;
 use crate::wires::Wires;

@@ -12,7 +12,6 @@ ghost use Rattle.qz_driver.specs.Mirror.{Control, mirror_of};
 ghost use Rattle.qz_driver.specs.FirstLanguage.{is_first, IsFirst};
 ghost use Rattle.qz_driver.specs.FirstWalk.{StartsAs};
 ghost use Rattle.qz_driver.specs.FirstResumes.{AreDifferent, IsControl, ResumesAs, IsStill};
-ghost use Rattle.qz_driver.specs.BitRuns.{RunsAs};
 ghost use Rattle.qz_driver.specs.declared.verilog.VModule.{VModule};
 ghost use Rattle.qz_driver.specs.Verilog.{IsValid};
 ghost use Rattle.qz_driver.specs.Implements.{Implements};
@@ -35,12 +34,6 @@ pub fn resumes_as_its_bits()
 pub fn is_still_where_control_is_away()
     ensures { (outputs : ℕ) (s : Stmt) → IsTrue (is_first outputs s) → AreDifferent (places_of s)
         → (control : Control) → IsControl control (places_of s) [] → IsStill (mirror_of s) control }
-{}
-
-/// For every number of steps a program of the first language has a run with the rows of its bits, and no
-/// run with others.
-pub fn runs_as_its_bits()
-    ensures { (m : Module) → IsFirst m → RunsAs m }
 {}
 
 /// A valid Verilog module that implements a module of the first language does its program.

@@ -6,10 +6,9 @@ mod call;
 mod circuit;
 mod control;
 mod depth;
+mod driven;
 pub mod first_runs;
 mod instant_loop;
-mod laws;
-mod parts;
 #[cfg(test)]
 mod programs;
 mod reader;
@@ -27,5 +26,4 @@ mod wires;
 mod words;
 
 pub use call::quartzc;
-pub use laws::valid_modules_settle;
 pub use status::Status;

@@ -7,7 +7,7 @@ ghost use Rattle.qz_driver.specs.Driven.{writes_as_bits, DeclaresWrites};
 ghost use Rattle.qz_driver.specs.Mirror.{mirror_of, driven, start_all};
 
 use crate::control::{ends_at_once, value};
-use crate::parts::DrivenWrite;
+use crate::driven::DrivenWrite;
 use crate::verilog::Ref;
 use crate::wires::Wires;
 use qz_syntax::{Expr, Stmt, Var};

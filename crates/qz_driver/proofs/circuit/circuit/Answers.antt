@@ -3,8 +3,8 @@ use Rattle.qz_values.specs.Values.{no}
 use Rattle.std.proofs.Math.ListN.{length-map, length-replicate}
 use Rattle.qz_driver.specs.declared.verilog.Ref.{Ref}
 use Rattle.qz_driver.specs.declared.verilog.Ref.TheVariants as net
-use Rattle.qz_driver.specs.declared.parts.DrivenWrite.{DrivenWrite}
-use Rattle.qz_driver.specs.declared.parts.DrivenPlace.{DrivenPlace}
+use Rattle.qz_driver.specs.declared.driven.DrivenWrite.{DrivenWrite}
+use Rattle.qz_driver.specs.declared.driven.DrivenPlace.{DrivenPlace}
 use Rattle.qz_driver.specs.Does.{port_of}
 use Rattle.qz_driver.specs.Driven.{writes_as_bits, rests_as_bits, AreDriven, DeclaresWrites, DeclaresRests, DeclaresRow}
 use Rattle.qz_driver.specs.Verilog.{Nets}

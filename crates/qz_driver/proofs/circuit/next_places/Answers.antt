@@ -4,7 +4,7 @@ use Rattle.qz_driver.proofs.Declaring.{still_has}
 use Rattle.qz_driver.specs.Driven.{DeclaresRow}
 use Rattle.qz_driver.specs.declared.verilog.Ref.{Ref}
 use Rattle.qz_driver.specs.declared.verilog.Ref.TheVariants.{Reg}
-use Rattle.qz_driver.specs.declared.parts.DrivenPlace.{DrivenPlace}
+use Rattle.qz_driver.specs.declared.driven.DrivenPlace.{DrivenPlace}
 use Rattle.qz_driver.specs.Driven.{rests_as_bits, AreDrivenAfter}
 use Rattle.qz_driver.specs.Verilog.{bit_at}
 use Rattle.qz_driver.proofs.Growing.{through}

@@ -4,7 +4,7 @@ use Rattle.qz_driver.proofs.Declaring.{still_has, row_stays}
 use Rattle.qz_driver.specs.Driven.{DeclaresRow}
 use Rattle.qz_driver.specs.declared.verilog.Ref.{Ref}
 use Rattle.qz_driver.specs.declared.verilog.Ref.TheVariants.{Reg}
-use Rattle.qz_driver.specs.declared.parts.DrivenWrite.{DrivenWrite}
+use Rattle.qz_driver.specs.declared.driven.DrivenWrite.{DrivenWrite}
 use Rattle.qz_driver.specs.Driven.{writes_as_bits, AreDrivenAfter}
 use Rattle.qz_driver.proofs.Growing.{through}
 use Rattle.qz_driver.proofs.Driving.{whole, one_more}
