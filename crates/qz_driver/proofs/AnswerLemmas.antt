@@ -15,7 +15,7 @@ use Rattle.qz_driver.specs.declared.status.Status.TheVariants as status
 use Rattle.qz_driver.specs.Commands.{Request}
 use Rattle.qz_driver.specs.Causes.{Cause, Usage, Absent, NotBuilt, InstantLoop, cause_of}
 use Rattle.qz_driver.specs.Verdicts.{IsNotBuilt, IsInstant, IsBuilt, IsAgainstBytes}
-use Rattle.qz_driver.specs.Texts.{HasCircuit, TextFrom, HoldsCircuit}
+use Rattle.qz_driver.specs.Texts.{TextFrom, HoldsCircuit}
 use Rattle.qz_driver.specs.Stops.{MadeFrom, StopsAt, IsOfBytes}
 use Rattle.qz_driver.specs.Answers.{Seen, IsThere, OfFile, CanStand, IsPutAnswer}
 use Rattle.qz_driver.proofs.VerdictLemmas.{not_built_or_built, instant_or_built, too_long_not_built}

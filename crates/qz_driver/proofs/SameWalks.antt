@@ -1,5 +1,5 @@
 -- A statement of the first language does the same in every scene: its values are literals.
-use Rattle.std.proofs.Common.{◌≡◌, ℕ, Bool, true, false, ◌++◌, List, [], ◌∷◌, map, refl, sym, ap, ap₂, ◌∙◌, if◌then◌else◌}
+use Rattle.std.proofs.Common.{◌≡◌, ℕ, true, false, ◌++◌, List, [], ◌∷◌, map, refl, sym, ap, ap₂, ◌∙◌, if◌then◌else◌}
 use Rattle.std.specs.Option.{option_map}
 use Rattle.std.specs.List.{AllByRecursion}
 use mathlib.Core.Path.{fun_ext}
@@ -20,7 +20,7 @@ use Rattle.qz_meaning.specs.Scenes.{Scene, Context, instance_here}
 use Rattle.qz_meaning.specs.Expressions.{value_here}
 use Rattle.qz_meaning.specs.Behaviors.{Behavior, idle}
 use Rattle.qz_meaning.specs.Sequences.{sequence}
-use Rattle.qz_meaning.specs.Loops.{repetition, fits_in_body}
+use Rattle.qz_meaning.specs.Loops.{fits_in_body}
 use Rattle.qz_meaning.specs.Walks.{behavior}
 use Rattle.qz_meaning.proofs.Walking.{behavior-Nothing, behavior-Assign, behavior-Pause, behavior-Seq, behavior-Loop}
 use Rattle.qz_driver.specs.Mirror.{bit_of}

@@ -1,5 +1,5 @@
 -- One more member of a sequence, in the functions of the mirror over a list.
-use Rattle.std.proofs.Common.{true, false, refl, true≢false, arith, ◌≡◌, ℕ, ◌+◌, ◌<◌, Bool, ◌&&◌, List, [], ◌∷◌, ◌++◌, map, length, drop, get_or, ap, sym, ◌∙◌, append_assoc}
+use Rattle.std.proofs.Common.{true, false, refl, true≢false, arith, ◌≡◌, ℕ, ◌+◌, ◌<◌, Bool, ◌&&◌, ◌||◌, List, [], ◌∷◌, ◌++◌, map, length, drop, get_or, ap, ap₂, sym, ◌∙◌, append_assoc}
 use Rattle.std.proofs.lemmas.List.{at_drop_more, get_or-map}
 use Rattle.std.proofs.lemmas.List.Folds.{list_all_at}
 use Rattle.std.proofs.Math.ListN.{length-map}
@@ -21,6 +21,12 @@ pub appended_again : (before mid after first : Bits) (second : Bool → Bits) (a
     → after ≡ before ++ (first ++ second b)
 appended_again before mid after first second a b mid_is after_is same =
     appended_twice before mid after first (second b) mid_is (after_is ∙ ap (λ c. mid ++ second c) same)
+
+-- the ends up to and with a member, from nets for its own
+pub ended_by : (part : Stmt) (control : Control) (before at_once resumed next : Bool) → at_once ≡ (mirror_of part).at_once
+    → resumed ≡ (mirror_of part).ended control → next ≡ ((before && at_once) || resumed) → next ≡ ended_after (mirror_of part) control before
+ended_by part control before at_once resumed next at_once_is resumed_is is =
+    is ∙ ap₂ (λ a b. (before && a) || b) at_once_is resumed_is
 
 -- where the places of all members are among the registers, so are those of each
 below_at : (registers : ℕ) (parts : List Stmt) (i : ℕ) (d : Stmt) → i < length parts → all_rest_below registers parts ≡ true

@@ -1,11 +1,8 @@
 -- The core trees of the first language: nothing, `emit` of an output, pause, sequences and endless loops.
-use Rattle.std.specs.Prelude.{ℕ, ◌≡◌, Bool, true, false, ◌==◌, ◌&&◌, IsTrue, nat_lt, List, length}
+use Rattle.std.specs.Prelude.{ℕ, ◌≡◌, Bool, true, false, ◌&&◌, IsTrue, nat_lt, length}
 use Rattle.std.specs.List.{list_all, range_with_len}
-use Rattle.qz_values.specs.declared.Ty.TheVariants as ty
 use Rattle.qz_values.specs.Types.{is_bool}
-use Rattle.qz_syntax.specs.declared.declarations.Class.{Class}
 use Rattle.qz_syntax.specs.declared.declarations.Class.TheVariants.{Event, Mem}
-use Rattle.qz_syntax.specs.declared.declarations.Dir.{Dir}
 use Rattle.qz_syntax.specs.declared.declarations.Dir.TheVariants as dir
 use Rattle.qz_syntax.specs.declared.declarations.Formal.{Formal}
 use Rattle.qz_syntax.specs.declared.expressions.Var.{Var}
@@ -14,7 +11,7 @@ use Rattle.qz_syntax.specs.declared.statements.Stmt.{Stmt}
 use Rattle.qz_syntax.specs.declared.statements.Stmt.TheOpen.{Stmt-F}
 use Rattle.qz_syntax.specs.declared.statements.Stmt.TheFolds.{fold-Stmt}
 use Rattle.qz_syntax.specs.declared.modules.Module.{Module}
-use Rattle.qz_syntax.specs.Numbers.{places_of, loops_of}
+use Rattle.qz_syntax.specs.Numbers.{places_of}
 use Rattle.qz_driver.specs.Mirror.{bit_of}
 
 -- an output by its number

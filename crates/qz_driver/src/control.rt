@@ -1,158 +1,65 @@
-//! Where control is and where it goes: nets over the places where it rests.
+//! Where control goes: nets over the places where it rests.
 //!
 //! The register of a place says that control rests there.
 
 ghost use Rattle.std.specs.Prelude.{◌≡◌, ℕ, true, false, ◌&&◌, not, ◌++◌, List, [], ◌∷◌, map, IfOk, OnOk};
 ghost use Rattle.qz_driver.specs.Verilog.{Nets, bit_at};
-ghost use Rattle.qz_driver.specs.WireTable.{Reads, Extends, Has, IsSound, Declares};
+ghost use Rattle.qz_driver.specs.WireTable.{Reads, Extends, Has};
 ghost use Rattle.qz_driver.specs.declared.wires.Wires.{Wires};
 ghost use Rattle.qz_driver.specs.RestsBelow.{rests_below, all_rest_below};
 ghost use Rattle.qz_driver.specs.Driven.{rests_as_bits, DeclaresRests};
-ghost use Rattle.qz_driver.specs.Mirror.{mirror_of, bit_of, all_at_once, enter_all, ended_after, ended_all, move_all, turns_by};
+ghost use Rattle.qz_driver.specs.Mirror.{mirror_of, bit_of, all_at_once, enter_all, ended_all, move_all, turns_by};
 
 use crate::driven::DrivenPlace;
-use crate::verilog::{Ref, is_true};
+use crate::ends::{ends_after, leaves, turns};
+use crate::verilog::Ref;
 use crate::wires::Wires;
 use qz_syntax::{Expr, Stmt};
 use std::alloc::AllocError;
 
-/// The value of an expression.
-pub fn value(wires: &mut Wires, e: &Expr) -> Result<Ref, AllocError>
-    ensures extends { OnOk result (Extends wires.old wires.new) }
-    ensures means { IfOk result (λ net. (nets : Nets) → Reads nets wires.new → bit_at nets net ≡ bit_of e.now) }
-    ensures declares { IfOk result (λ net. (registers : ℕ) → IsSound registers wires.old → Declares registers wires.new net) }
-{
-    match e {
-        Expr::Lit(v) => wires.constant(is_true(*v)),
-        _ => wires.constant(false),
-    }
-}
-
-/// Started, the statement ends in the same step.
-#[cycle(ends_at_once)]
-pub fn ends_at_once(wires: &mut Wires, s: &Stmt) -> Result<Ref, AllocError>
-    ensures extends { OnOk result (Extends wires.old wires.new) }
-    ensures means { IfOk result (λ net. (nets : Nets) → Reads nets wires.new →
-        bit_at nets net ≡ (mirror_of s.now).at_once) }
-    ensures declares { IfOk result (λ net. (registers : ℕ) → IsSound registers wires.old → Declares registers wires.new net) }
-{
-    match s {
-        Stmt::Pause(_) | Stmt::Loop(..) => wires.constant(false),
-        Stmt::Seq(parts) => all_end_at_once(wires, parts.as_slice()),
-        _ => wires.constant(true),
-    }
-}
-
-/// Started one after the other, all members end in the same step.
-#[cycle(ends_at_once)]
-fn all_end_at_once(wires: &mut Wires, parts: &[Stmt]) -> Result<Ref, AllocError>
-    ensures extends { OnOk result (Extends wires.old wires.new) }
-    ensures means { IfOk result (λ net. (nets : Nets) → Reads nets wires.new →
-        bit_at nets net ≡ all_at_once (map mirror_of parts.now)) }
-    ensures declares { IfOk result (λ net. (registers : ℕ) → IsSound registers wires.old → Declares registers wires.new net) }
-{
-    let mut ends = wires.constant(true)?;
-    for part in parts {
-        let part_ends = ends_at_once(wires, part)?;
-        ends = wires.and(ends, part_ends)?;
-    }
-    Ok(ends)
-}
-
-/// Control rests in the statement, and resumed it ends.
-#[cycle(ends)]
-pub fn ends(wires: &mut Wires, s: &Stmt) -> Result<Ref, AllocError>
-    ensures extends { OnOk result (Extends wires.old wires.new) }
-    ensures means { IfOk result (λ net. (nets : Nets) → Reads nets wires.new →
-        bit_at nets net ≡ (mirror_of s.now).ended nets.registers) }
-    ensures declares { IfOk result (λ net. (registers : ℕ) → rests_below registers s.now ≡ true → IsSound registers wires.old → Declares registers wires.new net) }
-{
-    match s {
-        Stmt::Pause(place) => Ok(Ref::Reg(u64::from(*place))),
-        Stmt::Seq(parts) => last_ends(wires, parts.as_slice()),
-        Stmt::Loop(_, body, condition) => leaves(wires, body.get(), condition),
-        _ => wires.constant(false),
-    }
-}
-
-/// Resumed, a loop's body ends and its condition doesn't hold.
-#[cycle(ends)]
-fn leaves(wires: &mut Wires, body: &Stmt, condition: &Expr) -> Result<Ref, AllocError>
-    ensures extends { OnOk result (Extends wires.old wires.new) }
-    ensures means { IfOk result (λ net. (nets : Nets) → Reads nets wires.new →
-        bit_at nets net ≡ ((mirror_of body.now).ended nets.registers && not (bit_of condition.now))) }
-    ensures declares { IfOk result (λ net. (registers : ℕ) → rests_below registers body.now ≡ true → IsSound registers wires.old → Declares registers wires.new net) }
-{
-    let body_ends = ends(wires, body)?;
-    let again = value(wires, condition)?;
-    let ends = wires.not(again)?;
-    let net = wires.and(body_ends, ends)?;
-    Ok(net)
-}
-
-/// Control rests in a member, and resumed it and all later ones end.
-#[cycle(ends)]
-fn last_ends(wires: &mut Wires, parts: &[Stmt]) -> Result<Ref, AllocError>
-    ensures extends { OnOk result (Extends wires.old wires.new) }
-    ensures means { IfOk result (λ net. (nets : Nets) → Reads nets wires.new →
-        bit_at nets net ≡ ended_all (map mirror_of parts.now) nets.registers false) }
-    ensures declares { IfOk result (λ net. (registers : ℕ) → all_rest_below registers parts.now ≡ true → IsSound registers wires.old → Declares registers wires.new net) }
-{
-    let mut so_far = wires.constant(false)?;
-    for part in parts {
-        so_far = ends_after(wires, part, so_far)?;
-    }
-    Ok(so_far)
-}
-
-/// The ends of a sequence up to and with a member, from those before it.
-#[cycle(ends)]
-pub fn ends_after(wires: &mut Wires, part: &Stmt, before: Ref) -> Result<Ref, AllocError>
-    ensures extends { OnOk result (Extends wires.old wires.new) }
-    ensures means { IfOk result (λ net. (nets : Nets) → Reads nets wires.new →
-        bit_at nets net ≡ ended_after (mirror_of part.now) nets.registers (bit_at nets before)) }
-    ensures declares { IfOk result (λ net. (registers : ℕ) → rests_below registers part.now ≡ true → IsSound registers wires.old → Has registers wires.old before → Declares registers wires.new net) }
-{
-    let at_once = ends_at_once(wires, part)?;
-    let passed = wires.and(before, at_once)?;
-    let resumed = ends(wires, part)?;
-    let net = wires.or(passed, resumed)?;
-    Ok(net)
-}
-
-/// Resumed, a loop's body ends and its condition holds.
-pub fn turns(wires: &mut Wires, body: &Stmt, condition: &Expr) -> Result<Ref, AllocError>
-    ensures extends { OnOk result (Extends wires.old wires.new) }
-    ensures means { IfOk result (λ net. (nets : Nets) → Reads nets wires.new →
-        bit_at nets net ≡ turns_by (mirror_of body.now) condition.now nets.registers) }
-    ensures declares { IfOk result (λ net. (registers : ℕ) → rests_below registers body.now ≡ true → IsSound registers wires.old → Declares registers wires.new net) }
-{
-    let body_ends = ends(wires, body)?;
-    let again = value(wires, condition)?;
-    let net = wires.and(body_ends, again)?;
-    Ok(net)
-}
-
-/// Where control rests after a start.
+/// The places where control rests after a start are appended. The answer is whether the start ends in
+/// the same step.
 #[cycle(enter)]
 pub fn enter(
     wires: &mut Wires,
     rests: &mut Vec<DrivenPlace>,
     s: &Stmt,
     start: Ref,
-) -> Result<(), AllocError>
+) -> Result<Ref, AllocError>
     ensures extends { OnOk result (Extends wires.old wires.new) }
+    ensures ends { IfOk result (λ ends. (nets : Nets) → Reads nets wires.new → bit_at nets ends ≡ (mirror_of s.now).at_once) }
     ensures means { OnOk result ((nets : Nets) → Reads nets wires.new →
         rests_as_bits nets rests.new.items ≡ rests_as_bits nets rests.old.items ++ (mirror_of s.now).enter (bit_at nets start)) }
-    ensures declares { OnOk result ((registers : ℕ) → rests_below registers s.now ≡ true → Has registers wires.old start → DeclaresRests registers wires.old rests.old.items →
-        DeclaresRests registers wires.new rests.new.items) }
+    ensures declares { IfOk result (λ ends. (registers : ℕ) → rests_below registers s.now ≡ true → Has registers wires.old start →
+        DeclaresRests registers wires.old rests.old.items →
+        DeclaresRests registers wires.new rests.new.items × Has registers wires.new ends) }
 {
     match s {
-        Stmt::Pause(place) => rest(rests, *place, start),
+        Stmt::Pause(place) => enter_pause(wires, rests, *place, start),
         Stmt::Seq(parts) => enter_first(wires, rests, parts.as_slice(), start),
-        Stmt::Loop(_, body, _) => enter(wires, rests, body.get(), start),
-        _ => Ok(()),
+        Stmt::Loop(_, body, _) => enter_loop(wires, rests, body.get(), start),
+        _ => wires.constant(true),
     }
+}
+
+/// A pause, where control rests.
+fn enter_pause(
+    wires: &mut Wires,
+    rests: &mut Vec<DrivenPlace>,
+    place: u32,
+    when: Ref,
+) -> Result<Ref, AllocError>
+    ensures extends { OnOk result (Extends wires.old wires.new) }
+    ensures ends { IfOk result (λ ends. (nets : Nets) → Reads nets wires.new → bit_at nets ends ≡ false) }
+    ensures means { OnOk result ((nets : Nets) → Reads nets wires.new →
+        rests_as_bits nets rests.new.items ≡ rests_as_bits nets rests.old.items ++ ((place, bit_at nets when) ∷ [])) }
+    ensures declares { IfOk result (λ ends. (registers : ℕ) → Has registers wires.old when →
+        DeclaresRests registers wires.old rests.old.items →
+        DeclaresRests registers wires.new rests.new.items × Has registers wires.new ends) }
+{
+    rest(rests, place, when)?;
+    let ends = wires.constant(false)?;
+    Ok(ends)
 }
 
 /// One more place where control rests.
@@ -166,64 +73,96 @@ fn rest(rests: &mut Vec<DrivenPlace>, place: u32, when: Ref) -> Result<(), Alloc
     Ok(())
 }
 
-/// Members that are started one after the other.
+/// A loop, which starts its body and never ends at once.
+#[cycle(enter)]
+fn enter_loop(
+    wires: &mut Wires,
+    rests: &mut Vec<DrivenPlace>,
+    body: &Stmt,
+    start: Ref,
+) -> Result<Ref, AllocError>
+    ensures extends { OnOk result (Extends wires.old wires.new) }
+    ensures ends { IfOk result (λ ends. (nets : Nets) → Reads nets wires.new → bit_at nets ends ≡ false) }
+    ensures means { OnOk result ((nets : Nets) → Reads nets wires.new →
+        rests_as_bits nets rests.new.items ≡ rests_as_bits nets rests.old.items ++ (mirror_of body.now).enter (bit_at nets start)) }
+    ensures declares { IfOk result (λ ends. (registers : ℕ) → rests_below registers body.now ≡ true → Has registers wires.old start →
+        DeclaresRests registers wires.old rests.old.items →
+        DeclaresRests registers wires.new rests.new.items × Has registers wires.new ends) }
+{
+    enter(wires, rests, body, start)?;
+    let ends = wires.constant(false)?;
+    Ok(ends)
+}
+
+/// Members that are started one after the other, each where all before it end at once.
 #[cycle(enter)]
 fn enter_first(
     wires: &mut Wires,
     rests: &mut Vec<DrivenPlace>,
     parts: &[Stmt],
     start: Ref,
-) -> Result<(), AllocError>
+) -> Result<Ref, AllocError>
     ensures extends { OnOk result (Extends wires.old wires.new) }
+    ensures ends { IfOk result (λ ends. (nets : Nets) → Reads nets wires.new → bit_at nets ends ≡ all_at_once (map mirror_of parts.now)) }
     ensures means { OnOk result ((nets : Nets) → Reads nets wires.new →
         rests_as_bits nets rests.new.items ≡ rests_as_bits nets rests.old.items ++ enter_all (map mirror_of parts.now) (bit_at nets start)) }
-    ensures declares { OnOk result ((registers : ℕ) → all_rest_below registers parts.now ≡ true → Has registers wires.old start → DeclaresRests registers wires.old rests.old.items →
-        DeclaresRests registers wires.new rests.new.items) }
+    ensures declares { IfOk result (λ ends. (registers : ℕ) → all_rest_below registers parts.now ≡ true → Has registers wires.old start →
+        DeclaresRests registers wires.old rests.old.items →
+        DeclaresRests registers wires.new rests.new.items × Has registers wires.new ends) }
 {
     let mut start = start;
+    let mut ends = wires.constant(true)?;
     for part in parts {
-        enter(wires, rests, part, start)?;
-        let part_ends = ends_at_once(wires, part)?;
+        let part_ends = enter(wires, rests, part, start)?;
         start = wires.and(start, part_ends)?;
+        ends = wires.and(ends, part_ends)?;
     }
-    Ok(())
+    Ok(ends)
 }
 
-/// Where control rests after a resume.
+/// The places where control rests after a resume are appended. The answer is whether control rests in
+/// the statement and it ends in this step.
 #[cycle(moves)]
-pub fn moves(wires: &mut Wires, rests: &mut Vec<DrivenPlace>, s: &Stmt) -> Result<(), AllocError>
+pub fn moves(wires: &mut Wires, rests: &mut Vec<DrivenPlace>, s: &Stmt) -> Result<Ref, AllocError>
     ensures extends { OnOk result (Extends wires.old wires.new) }
+    ensures ends { IfOk result (λ ends. (nets : Nets) → Reads nets wires.new → bit_at nets ends ≡ (mirror_of s.now).ended nets.registers) }
     ensures means { OnOk result ((nets : Nets) → Reads nets wires.new →
         rests_as_bits nets rests.new.items ≡ rests_as_bits nets rests.old.items ++ (mirror_of s.now).move nets.registers) }
-    ensures declares { OnOk result ((registers : ℕ) → rests_below registers s.now ≡ true → DeclaresRests registers wires.old rests.old.items →
-        DeclaresRests registers wires.new rests.new.items) }
+    ensures declares { IfOk result (λ ends. (registers : ℕ) → rests_below registers s.now ≡ true →
+        DeclaresRests registers wires.old rests.old.items →
+        DeclaresRests registers wires.new rests.new.items × Has registers wires.new ends) }
 {
     match s {
+        Stmt::Pause(place) => Ok(Ref::Reg(u64::from(*place))),
         Stmt::Seq(parts) => moves_on(wires, rests, parts.as_slice()),
         Stmt::Loop(_, body, condition) => moves_round(wires, rests, body.get(), condition),
-        _ => Ok(()),
+        _ => wires.constant(false),
     }
 }
 
-/// A loop's body that is resumed, and started again where it ends and the condition holds.
+/// A loop, whose body is resumed, and started again where it ends and the condition holds.
 #[cycle(moves)]
 fn moves_round(
     wires: &mut Wires,
     rests: &mut Vec<DrivenPlace>,
     body: &Stmt,
     condition: &Expr,
-) -> Result<(), AllocError>
+) -> Result<Ref, AllocError>
     ensures extends { OnOk result (Extends wires.old wires.new) }
+    ensures ends { IfOk result (λ ends. (nets : Nets) → Reads nets wires.new →
+        bit_at nets ends ≡ ((mirror_of body.now).ended nets.registers && not (bit_of condition.now))) }
     ensures means { OnOk result ((nets : Nets) → Reads nets wires.new →
         rests_as_bits nets rests.new.items ≡ rests_as_bits nets rests.old.items
         ++ ((mirror_of body.now).move nets.registers ++ (mirror_of body.now).enter (turns_by (mirror_of body.now) condition.now nets.registers))) }
-    ensures declares { OnOk result ((registers : ℕ) → rests_below registers body.now ≡ true → DeclaresRests registers wires.old rests.old.items →
-        DeclaresRests registers wires.new rests.new.items) }
+    ensures declares { IfOk result (λ ends. (registers : ℕ) → rests_below registers body.now ≡ true →
+        DeclaresRests registers wires.old rests.old.items →
+        DeclaresRests registers wires.new rests.new.items × Has registers wires.new ends) }
 {
-    moves(wires, rests, body)?;
-    let turns = turns(wires, body, condition)?;
+    let body_ends = moves(wires, rests, body)?;
+    let turns = turns(wires, body_ends, condition)?;
     enter(wires, rests, body, turns)?;
-    Ok(())
+    let ends = leaves(wires, body_ends, condition)?;
+    Ok(ends)
 }
 
 /// Members of which one is resumed, and those after it started as it ends.
@@ -232,18 +171,21 @@ fn moves_on(
     wires: &mut Wires,
     rests: &mut Vec<DrivenPlace>,
     parts: &[Stmt],
-) -> Result<(), AllocError>
+) -> Result<Ref, AllocError>
     ensures extends { OnOk result (Extends wires.old wires.new) }
+    ensures ends { IfOk result (λ ends. (nets : Nets) → Reads nets wires.new →
+        bit_at nets ends ≡ ended_all (map mirror_of parts.now) nets.registers false) }
     ensures means { OnOk result ((nets : Nets) → Reads nets wires.new →
         rests_as_bits nets rests.new.items ≡ rests_as_bits nets rests.old.items ++ move_all (map mirror_of parts.now) nets.registers false) }
-    ensures declares { OnOk result ((registers : ℕ) → all_rest_below registers parts.now ≡ true → DeclaresRests registers wires.old rests.old.items →
-        DeclaresRests registers wires.new rests.new.items) }
+    ensures declares { IfOk result (λ ends. (registers : ℕ) → all_rest_below registers parts.now ≡ true →
+        DeclaresRests registers wires.old rests.old.items →
+        DeclaresRests registers wires.new rests.new.items × Has registers wires.new ends) }
 {
     let mut so_far = wires.constant(false)?;
     for part in parts {
-        moves(wires, rests, part)?;
-        enter(wires, rests, part, so_far)?;
-        so_far = ends_after(wires, part, so_far)?;
+        let resumed = moves(wires, rests, part)?;
+        let at_once = enter(wires, rests, part, so_far)?;
+        so_far = ends_after(wires, so_far, at_once, resumed)?;
     }
-    Ok(())
+    Ok(so_far)
 }

@@ -7,6 +7,7 @@ mod circuit;
 mod control;
 mod depth;
 mod driven;
+mod ends;
 pub mod first_runs;
 mod instant_loop;
 #[cfg(test)]

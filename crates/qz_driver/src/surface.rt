@@ -1,38 +1,62 @@
 //! What a statement does in the step in which it is started.
 
-ghost use Rattle.std.specs.Prelude.{◌≡◌, ℕ, false, ◌++◌, ◌&&◌, List, map, OnOk};
+ghost use Rattle.std.specs.Prelude.{◌≡◌, ℕ, true, false, ◌++◌, ◌&&◌, List, map, OnOk, IfOk};
 ghost use Rattle.qz_driver.specs.Verilog.{Nets, bit_at};
 ghost use Rattle.qz_driver.specs.WireTable.{Reads, Extends, Has};
 ghost use Rattle.qz_driver.specs.Driven.{writes_as_bits, DeclaresWrites};
-ghost use Rattle.qz_driver.specs.Mirror.{mirror_of, driven, start_all};
+ghost use Rattle.qz_driver.specs.Mirror.{mirror_of, driven, start_all, all_at_once};
 
-use crate::control::{ends_at_once, value};
 use crate::driven::DrivenWrite;
+use crate::ends::value;
 use crate::verilog::Ref;
 use crate::wires::Wires;
 use qz_syntax::{Expr, Stmt, Var};
 use std::alloc::AllocError;
 
-/// The writes of a start.
+/// The writes of a start are appended. The answer is whether it ends in the same step.
 #[cycle(surface)]
 pub fn surface(
     wires: &mut Wires,
     writes: &mut Vec<DrivenWrite>,
     s: &Stmt,
     start: Ref,
-) -> Result<(), AllocError>
+) -> Result<Ref, AllocError>
     ensures extends { OnOk result (Extends wires.old wires.new) }
+    ensures ends { IfOk result (λ ends. (nets : Nets) → Reads nets wires.new → bit_at nets ends ≡ (mirror_of s.now).at_once) }
     ensures means { OnOk result ((nets : Nets) → Reads nets wires.new →
         writes_as_bits nets writes.new.items ≡ writes_as_bits nets writes.old.items ++ (mirror_of s.now).start (bit_at nets start)) }
-    ensures declares { OnOk result ((registers : ℕ) → Has registers wires.old start → DeclaresWrites registers wires.old writes.old.items →
-        DeclaresWrites registers wires.new writes.new.items) }
+    ensures declares { IfOk result (λ ends. (registers : ℕ) → Has registers wires.old start →
+        DeclaresWrites registers wires.old writes.old.items →
+        DeclaresWrites registers wires.new writes.new.items × Has registers wires.new ends) }
 {
     match s {
-        Stmt::Assign(target, e) => assign(wires, writes, *target, e, start),
+        Stmt::Assign(target, e) => surface_of_assignment(wires, writes, *target, e, start),
+        Stmt::Pause(_) => wires.constant(false),
         Stmt::Seq(parts) => surface_of_all(wires, writes, parts.as_slice(), start),
-        Stmt::Loop(_, body, _) => surface(wires, writes, body.get(), start),
-        _ => Ok(()),
+        Stmt::Loop(_, body, _) => surface_of_loop(wires, writes, body.get(), start),
+        _ => wires.constant(true),
     }
+}
+
+/// An assignment, which ends at once.
+fn surface_of_assignment(
+    wires: &mut Wires,
+    writes: &mut Vec<DrivenWrite>,
+    target: Var,
+    e: &Expr,
+    guard: Ref,
+) -> Result<Ref, AllocError>
+    ensures extends { OnOk result (Extends wires.old wires.new) }
+    ensures ends { IfOk result (λ ends. (nets : Nets) → Reads nets wires.new → bit_at nets ends ≡ true) }
+    ensures means { OnOk result ((nets : Nets) → Reads nets wires.new →
+        writes_as_bits nets writes.new.items ≡ writes_as_bits nets writes.old.items ++ driven target e.now (bit_at nets guard)) }
+    ensures declares { IfOk result (λ ends. (registers : ℕ) → Has registers wires.old guard →
+        DeclaresWrites registers wires.old writes.old.items →
+        DeclaresWrites registers wires.new writes.new.items × Has registers wires.new ends) }
+{
+    assign(wires, writes, target, e, guard)?;
+    let ends = wires.constant(true)?;
+    Ok(ends)
 }
 
 /// The write of an assignment.
@@ -60,25 +84,49 @@ fn assign(
     Ok(())
 }
 
-/// The writes of members that are started one after the other.
+/// A loop, which starts its body and never ends at once.
+#[cycle(surface)]
+fn surface_of_loop(
+    wires: &mut Wires,
+    writes: &mut Vec<DrivenWrite>,
+    body: &Stmt,
+    start: Ref,
+) -> Result<Ref, AllocError>
+    ensures extends { OnOk result (Extends wires.old wires.new) }
+    ensures ends { IfOk result (λ ends. (nets : Nets) → Reads nets wires.new → bit_at nets ends ≡ false) }
+    ensures means { OnOk result ((nets : Nets) → Reads nets wires.new →
+        writes_as_bits nets writes.new.items ≡ writes_as_bits nets writes.old.items ++ (mirror_of body.now).start (bit_at nets start)) }
+    ensures declares { IfOk result (λ ends. (registers : ℕ) → Has registers wires.old start →
+        DeclaresWrites registers wires.old writes.old.items →
+        DeclaresWrites registers wires.new writes.new.items × Has registers wires.new ends) }
+{
+    surface(wires, writes, body, start)?;
+    let ends = wires.constant(false)?;
+    Ok(ends)
+}
+
+/// Members that are started one after the other, each where all before it end at once.
 #[cycle(surface)]
 fn surface_of_all(
     wires: &mut Wires,
     writes: &mut Vec<DrivenWrite>,
     parts: &[Stmt],
     start: Ref,
-) -> Result<(), AllocError>
+) -> Result<Ref, AllocError>
     ensures extends { OnOk result (Extends wires.old wires.new) }
+    ensures ends { IfOk result (λ ends. (nets : Nets) → Reads nets wires.new → bit_at nets ends ≡ all_at_once (map mirror_of parts.now)) }
     ensures means { OnOk result ((nets : Nets) → Reads nets wires.new →
         writes_as_bits nets writes.new.items ≡ writes_as_bits nets writes.old.items ++ start_all (map mirror_of parts.now) (bit_at nets start)) }
-    ensures declares { OnOk result ((registers : ℕ) → Has registers wires.old start → DeclaresWrites registers wires.old writes.old.items →
-        DeclaresWrites registers wires.new writes.new.items) }
+    ensures declares { IfOk result (λ ends. (registers : ℕ) → Has registers wires.old start →
+        DeclaresWrites registers wires.old writes.old.items →
+        DeclaresWrites registers wires.new writes.new.items × Has registers wires.new ends) }
 {
     let mut start = start;
+    let mut ends = wires.constant(true)?;
     for part in parts {
-        surface(wires, writes, part, start)?;
-        let part_ends = ends_at_once(wires, part)?;
+        let part_ends = surface(wires, writes, part, start)?;
         start = wires.and(start, part_ends)?;
+        ends = wires.and(ends, part_ends)?;
     }
-    Ok(())
+    Ok(ends)
 }

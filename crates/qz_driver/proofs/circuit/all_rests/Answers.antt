@@ -15,5 +15,5 @@ returns-clause-means c = λ nets reads.
 
 pub returns-clause-declares : goal.returns-clause-declares
 returns-clause-declares c = λ registers below sound start.
-    c.in_ok-moves.ensures.declares registers below
-    (c.in_ok-enter.ensures.declares registers below start (no_rests registers _ sound _ c.new-rests.ensures.items))
+    let begun = c.in_ok-enter.ensures.declares registers below start (no_rests registers _ sound _ c.new-rests.ensures.items) in
+    (c.in_ok-moves.ensures.declares registers below begun.0).0

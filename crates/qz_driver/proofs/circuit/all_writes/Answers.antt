@@ -16,4 +16,4 @@ returns-clause-means c = λ nets reads.
 pub returns-clause-declares : goal.returns-clause-declares
 returns-clause-declares c = λ registers below sound start always.
     let begun = c.in_ok-surface.ensures.declares registers start (no_writes registers _ sound _ c.new-writes.ensures.items) in
-    c.in_ok-depth.ensures.declares registers below (still_has registers _ _ _ c.in_ok-surface.ensures.extends always) begun
+    (c.in_ok-depth.ensures.declares registers below (still_has registers _ _ _ c.in_ok-surface.ensures.extends always) begun.0).0
