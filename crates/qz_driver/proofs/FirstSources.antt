@@ -1,6 +1,6 @@
 -- What a source describes is a module of the first language.
 use Rattle.std.proofs.Common.{◌≡◌, ℕ, zero, suc, ◌+◌, Bool, true, ◌&&◌, List, [], ◌∷◌, ◌++◌, map, length, Option, Some, None, is_some, unwrap_or, refl, sym, ap, ap₂, subst, ◌∙◌, arith, append-nil, lt-ltb}
-use Rattle.std.proofs.lemmas.List.{length-replicate}
+use Rattle.std.proofs.lemmas.List.{length-replicate, length-map}
 use Rattle.std.proofs.lemmas.List.Quantifiers.{position-Some}
 use Rattle.std.specs.List.{list_all, concat, range_with_len}
 use Rattle.std.specs.Str.{bytes_eq}
@@ -20,8 +20,8 @@ use Rattle.qz_driver.specs.declared.source.SourceStmt.TheOpen.{SourceStmt-F}
 use Rattle.qz_driver.specs.declared.source.SourceStmt.TheFolds.{fold-roll-SourceStmt, ind-SourceStmt}
 use Rattle.qz_driver.specs.Mirror.{bit_of, node_bit}
 use Rattle.qz_driver.specs.FirstLanguage.{is_first, node_is_first, is_event_output, IsFirst}
-use Rattle.qz_driver.specs.Grammar.{AreOutputs, output}
-use Rattle.qz_driver.specs.CoreTree.{number_of, node_emits, emits_formals, Core, Cores, in_order, sequence, node_core, core, cores, core_module, IsAsked}
+use Rattle.qz_driver.specs.Grammar.{AreOutputs}
+use Rattle.qz_driver.specs.CoreTree.{names_of, number_of, node_emits, emits_among, Core, Cores, in_order, sequence, node_core, core, cores, core_module, IsAsked}
 
 abbrev places_node : Stmt-F (List ℕ) → List ℕ
 places_node node = own_places node ++ concat (parts_of node)
@@ -77,12 +77,9 @@ cored_sequence outputs from (s ∷ t ∷ more) places loops all = record {
   are = fold-Seq (List ℕ) places_node (s ∷ t ∷ more) ∙ all.are;
 }
 
-no_formal : Formal
-no_formal = output []
-
-module _ (formals : List Formal) where
+module _ (names : List (List ℕ)) where
   abbrev Claim : SourceStmt → Type 0
-  Claim s = (places loops : ℕ) → emits_formals formals s ≡ true → Cored (length formals) places (core formals s places loops)
+  Claim s = (places loops : ℕ) → emits_among names s ≡ true → Cored (length names) places (core names s places loops)
 
   abbrev Proved : Type 0
   Proved = (s : SourceStmt) × Claim s
@@ -93,13 +90,13 @@ module _ (formals : List Formal) where
   abbrev bare : SourceStmt-F Proved → SourceStmt-F SourceStmt
   bare node = map-SourceStmt Proved SourceStmt (λ e. e.0) node
 
-  all_parts : (parts : List Proved) (places loops : ℕ) → list_all (λ emits. emits) (map (emits_formals formals) (bare_all parts)) ≡ true
-      → AreCored (length formals) places (in_order (map (core formals) (bare_all parts)) places loops)
+  all_parts : (parts : List Proved) (places loops : ℕ) → list_all (λ emits. emits) (map (emits_among names) (bare_all parts)) ≡ true
+      → AreCored (length names) places (in_order (map (core names) (bare_all parts)) places loops)
   all_parts [] places loops e = record { first = refl; count = 0; places = omega arith; are = refl }
   all_parts (part ∷ parts) places loops e =
       let both = and_parts _ _ e in
       let here = part.1 places loops both.0 in
-      let c = core formals part.0 places loops in
+      let c = core names part.0 places loops in
       let later = all_parts parts c.places c.loops both.1 in
       record {
         first = ap₂ (λ a b. a && b) here.first later.first;
@@ -109,62 +106,62 @@ module _ (formals : List Formal) where
             ∙ range-append places here.count later.count;
       }
 
-  emitted : (name : List ℕ) (places loops : ℕ) (found : Option ℕ) → number_of formals name ≡ found → is_some found ≡ true
-      → Cored (length formals) places (record { stmt = stmt.Assign (variable.Formal (unwrap_or found 0)) (Lit yes); places = places; loops = loops })
+  emitted : (name : List ℕ) (places loops : ℕ) (found : Option ℕ) → number_of names name ≡ found → is_some found ≡ true
+      → Cored (length names) places (record { stmt = stmt.Assign (variable.Formal (unwrap_or found 0)) (Lit yes); places = places; loops = loops })
   emitted name places loops None is e = absurd (false≢true e)
   emitted name places loops (Some number) is e =
-      let within = (position-Some (λ (formal : Formal). bytes_eq formal.name name) formals number no_formal is).0 in
+      let within = (position-Some (bytes_eq name) names number [] is).0 in
       record {
-        first = fold-Assign Bool (node_is_first (length formals)) (variable.Formal number) (Lit yes)
-            ∙ ap₂ (λ a b. a && b) (lt-ltb number (length formals) within) literal_true;
+        first = fold-Assign Bool (node_is_first (length names)) (variable.Formal number) (Lit yes)
+            ∙ ap₂ (λ a b. a && b) (lt-ltb number (length names) within) literal_true;
         count = 0;
         places = omega arith;
         are = fold-Assign (List ℕ) places_node (variable.Formal number) (Lit yes);
       }
 
   at_node : (node : SourceStmt-F Proved) (places loops : ℕ)
-      → node_emits formals (map-SourceStmt SourceStmt Bool (emits_formals formals) (bare node)) ≡ true
-      → Cored (length formals) places (node_core formals (map-SourceStmt SourceStmt (ℕ → ℕ → Core) (core formals) (bare node)) places loops)
+      → node_emits names (map-SourceStmt SourceStmt Bool (emits_among names) (bare node)) ≡ true
+      → Cored (length names) places (node_core names (map-SourceStmt SourceStmt (ℕ → ℕ → Core) (core names) (bare node)) places loops)
   at_node SourceStmt-F.Nothing places loops e = record {
-    first = fold-Nothing Bool (node_is_first (length formals));
+    first = fold-Nothing Bool (node_is_first (length names));
     count = 0;
     places = omega arith;
     are = fold-Nothing (List ℕ) places_node;
   }
   at_node SourceStmt-F.Pause places loops e = record {
-    first = fold-Pause Bool (node_is_first (length formals)) places;
+    first = fold-Pause Bool (node_is_first (length names)) places;
     count = 1;
     places = refl;
     are = fold-Pause (List ℕ) places_node places;
   }
-  at_node (SourceStmt-F.Emit name) places loops e = emitted name places loops (number_of formals name) refl e
+  at_node (SourceStmt-F.Emit name) places loops e = emitted name places loops (number_of names name) refl e
   at_node (SourceStmt-F.Loop body) places loops e =
       let inner = body.1 places (loops + 1) e in
-      let c = core formals body.0 places (loops + 1) in
+      let c = core names body.0 places (loops + 1) in
       record {
-        first = fold-Loop Bool (node_is_first (length formals)) loops c.stmt (Lit yes) ∙ ap₂ (λ a b. a && b) inner.first literal_true;
+        first = fold-Loop Bool (node_is_first (length names)) loops c.stmt (Lit yes) ∙ ap₂ (λ a b. a && b) inner.first literal_true;
         count = inner.count;
         places = inner.places;
         are = fold-Loop (List ℕ) places_node loops c.stmt (Lit yes) ∙ (append-nil (places_of c.stmt) ∙ inner.are);
       }
   at_node (SourceStmt-F.Block parts) places loops e =
       let all = all_parts parts places loops e in
-      let c = in_order (map (core formals) (bare_all parts)) places loops in
-      cored_sequence (length formals) places c.stmts c.places c.loops all
+      let c = in_order (map (core names) (bare_all parts)) places loops in
+      cored_sequence (length names) places c.stmts c.places c.loops all
 
   cored : (s : SourceStmt) → Claim s
   cored = ind-SourceStmt Claim (λ x y is. subst (λ z. Claim (roll-SourceStmt z)) is (λ places loops e.
-      subst (λ (c : ℕ → ℕ → Core). Cored (length formals) places (c places loops))
-      (sym (fold-roll-SourceStmt (ℕ → ℕ → Core) (node_core formals) (bare y)))
-      (at_node y places loops (sym (fold-roll-SourceStmt Bool (node_emits formals) (bare y)) ∙ e))))
+      subst (λ (c : ℕ → ℕ → Core). Cored (length names) places (c places loops))
+      (sym (fold-roll-SourceStmt (ℕ → ℕ → Core) (node_core names) (bare y)))
+      (at_node y places loops (sym (fold-roll-SourceStmt Bool (node_emits names) (bare y)) ∙ e))))
 
-  cored_all : (parts : List SourceStmt) (places loops : ℕ) → list_all (λ emits. emits) (map (emits_formals formals) parts) ≡ true
-      → AreCored (length formals) places (in_order (map (core formals) parts) places loops)
+  cored_all : (parts : List SourceStmt) (places loops : ℕ) → list_all (λ emits. emits) (map (emits_among names) parts) ≡ true
+      → AreCored (length names) places (in_order (map (core names) parts) places loops)
   cored_all [] places loops e = record { first = refl; count = 0; places = omega arith; are = refl }
   cored_all (part ∷ parts) places loops e =
       let both = and_parts _ _ e in
       let here = cored part places loops both.0 in
-      let c = core formals part places loops in
+      let c = core names part places loops in
       let later = cored_all parts c.places c.loops both.1 in
       record {
         first = ap₂ (λ a b. a && b) here.first later.first;
@@ -182,12 +179,12 @@ outputs_are_events (formal ∷ formals) all =
 -- a source that is asked for describes a module of the first language
 pub first_source : (asked : List ℕ) (source : SourceModule) → IsAsked asked source → AreOutputs source.formals → IsFirst (core_module source)
 first_source asked source is outputs =
-    let c = cores source.formals source.body 0 0 in
-    let all = cored_all source.formals source.body 0 0 is.emits in
-    let one = cored_sequence (length source.formals) 0 c.stmts c.places c.loops all in
+    let c = cores (names_of source.formals) source.body 0 0 in
+    let all = cored_all (names_of source.formals) source.body 0 0 is.emits in
+    let one = cored_sequence (length (names_of source.formals)) 0 c.stmts c.places c.loops all in
     let count : one.count ≡ c.places = omega (arith, one.places) in
     record {
       formals = outputs_are_events source.formals outputs;
-      body = one.first;
+      body = subst (λ n. is_first n (sequence c.stmts) ≡ true) (length-map source.formals (λ (formal : Formal). formal.name)) one.first;
       places = one.are ∙ ap (λ n. range_with_len 0 n) (count ∙ sym (length-replicate c.places None));
     }

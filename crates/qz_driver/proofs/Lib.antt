@@ -4,6 +4,7 @@ pub mod Growing
 pub mod Walks
 pub mod FirstInduction
 pub mod BitLemmas
+pub mod NameLemmas
 pub mod PlaceLemmas
 pub mod StartMirror
 pub mod ResumeMirror

@@ -1,6 +1,6 @@
 -- The core tree of a source: names become numbers, lists become sequences, and places and loops are numbered.
 use Rattle.std.specs.Prelude.{ℕ, ◌≡◌, ◌+◌, ◌≤◌, Bool, true, ◌&&◌, not, List, [], ◌∷◌, length, map, position, replicate, Option, None, is_some, unwrap_or, IsTrue, bytes_eq}
-use Rattle.std.specs.List.{list_all}
+use Rattle.std.specs.List.{list_all, list_any}
 use Rattle.std.specs.Str.{chars}
 use Rattle.qz_values.specs.Values.{yes}
 use Rattle.qz_syntax.specs.declared.declarations.Formal.{Formal}
@@ -15,20 +15,24 @@ use Rattle.qz_driver.specs.declared.source.SourceStmt.{SourceStmt}
 use Rattle.qz_driver.specs.declared.source.SourceStmt.TheOpen.{SourceStmt-F}
 use Rattle.qz_driver.specs.declared.source.SourceStmt.TheFolds.{fold-SourceStmt}
 
--- the number of the first formal of this name
-abbrev pub number_of : List Formal → List ℕ → Option ℕ
-number_of formals name = position (λ (formal : Formal). bytes_eq formal.name name) formals
+-- the names of formals, in their order
+abbrev pub names_of : List Formal → List (List ℕ)
+names_of formals = map (λ (formal : Formal). formal.name) formals
 
--- whether what is emitted are formals
-abbrev pub node_emits : List Formal → SourceStmt-F Bool → Bool
-node_emits formals SourceStmt-F.Nothing = true
-node_emits formals SourceStmt-F.Pause = true
-node_emits formals (SourceStmt-F.Emit name) = is_some (number_of formals name)
-node_emits formals (SourceStmt-F.Loop body) = body
-node_emits formals (SourceStmt-F.Block parts) = list_all (λ part. part) parts
+-- the number of a name among these
+abbrev pub number_of : List (List ℕ) → List ℕ → Option ℕ
+number_of names name = position (bytes_eq name) names
 
-abbrev pub emits_formals : List Formal → SourceStmt → Bool
-emits_formals formals = fold-SourceStmt Bool (node_emits formals)
+-- whether what is emitted is among these names
+abbrev pub node_emits : List (List ℕ) → SourceStmt-F Bool → Bool
+node_emits names SourceStmt-F.Nothing = true
+node_emits names SourceStmt-F.Pause = true
+node_emits names (SourceStmt-F.Emit name) = is_some (number_of names name)
+node_emits names (SourceStmt-F.Loop body) = body
+node_emits names (SourceStmt-F.Block parts) = list_all (λ part. part) parts
+
+abbrev pub emits_among : List (List ℕ) → SourceStmt → Bool
+emits_among names = fold-SourceStmt Bool (node_emits names)
 
 -- a core statement, and how many places and loops stand before what follows it
 pub record Core : Type 0 where
@@ -57,31 +61,31 @@ sequence (s ∷ []) = s
 sequence (s ∷ t ∷ more) = stmt.Seq (s ∷ t ∷ more)
 
 -- one statement, given its parts and how many places and loops stand before it; `emit x` is `x = true`
-abbrev pub node_core : List Formal → SourceStmt-F (ℕ → ℕ → Core) → ℕ → ℕ → Core
-node_core formals SourceStmt-F.Nothing places loops = record { stmt = stmt.Nothing; places = places; loops = loops }
-node_core formals SourceStmt-F.Pause places loops = record { stmt = stmt.Pause places; places = places + 1; loops = loops }
-node_core formals (SourceStmt-F.Emit name) places loops = record {
-  stmt = stmt.Assign (variable.Formal (unwrap_or (number_of formals name) 0)) (Lit yes);
+abbrev pub node_core : List (List ℕ) → SourceStmt-F (ℕ → ℕ → Core) → ℕ → ℕ → Core
+node_core names SourceStmt-F.Nothing places loops = record { stmt = stmt.Nothing; places = places; loops = loops }
+node_core names SourceStmt-F.Pause places loops = record { stmt = stmt.Pause places; places = places + 1; loops = loops }
+node_core names (SourceStmt-F.Emit name) places loops = record {
+  stmt = stmt.Assign (variable.Formal (unwrap_or (number_of names name) 0)) (Lit yes);
   places = places;
   loops = loops;
 }
-node_core formals (SourceStmt-F.Loop body) places loops =
+node_core names (SourceStmt-F.Loop body) places loops =
     let inner = body places (loops + 1) in
     record { stmt = stmt.Loop loops inner.stmt (Lit yes); places = inner.places; loops = inner.loops }
-node_core formals (SourceStmt-F.Block parts) places loops =
+node_core names (SourceStmt-F.Block parts) places loops =
     let inner = in_order parts places loops in
     record { stmt = sequence inner.stmts; places = inner.places; loops = inner.loops }
 
-abbrev pub core : List Formal → SourceStmt → ℕ → ℕ → Core
-core formals = fold-SourceStmt (ℕ → ℕ → Core) (node_core formals)
+abbrev pub core : List (List ℕ) → SourceStmt → ℕ → ℕ → Core
+core names = fold-SourceStmt (ℕ → ℕ → Core) (node_core names)
 
-abbrev pub cores : List Formal → List SourceStmt → ℕ → ℕ → Cores
-cores formals parts = in_order (map (core formals) parts)
+abbrev pub cores : List (List ℕ) → List SourceStmt → ℕ → ℕ → Cores
+cores names parts = in_order (map (core names) parts)
 
 -- the module that a source describes
 abbrev pub core_module : SourceModule → Module
 core_module source =
-    let body = cores source.formals source.body 0 0 in
+    let body = cores (names_of source.formals) source.body 0 0 in
     record {
       name = source.name;
       formals = source.formals;
@@ -93,15 +97,15 @@ core_module source =
     }
 
 -- whether each name stands once
-abbrev pub differ : List Formal → Bool
+abbrev pub differ : List (List ℕ) → Bool
 differ [] = true
-differ (formal ∷ formals) = not (is_some (number_of formals formal.name)) && differ formals
+differ (name ∷ names) = not (list_any (bytes_eq name) names) && differ names
 
 -- The source has the name that was asked for, at most 256 formals whose names differ, what it emits are
 -- formals, and its size is at most 100,000.
 pub record IsAsked (name : List ℕ) (source : SourceModule) : Type 0 where
   pub named : source.name ≡ chars name
   pub few : length source.formals ≤ 256
-  pub differ : IsTrue (differ source.formals)
-  pub emits : IsTrue (list_all (λ emits. emits) (map (emits_formals source.formals) source.body))
+  pub differ : IsTrue (differ (names_of source.formals))
+  pub emits : IsTrue (list_all (λ emits. emits) (map (emits_among (names_of source.formals)) source.body))
   pub small : size_of (core_module source) ≤ 100000

@@ -9,6 +9,7 @@ mod depth;
 mod driven;
 mod ends;
 pub mod first_runs;
+mod formal_numbers;
 mod instant_loop;
 #[cfg(test)]
 mod programs;

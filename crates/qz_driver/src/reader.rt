@@ -22,9 +22,6 @@ pub const MAX_BYTES: u64 = 1_048_576;
 /// The most levels of nesting; the module's block has level 1.
 pub const MAX_LEVEL: u32 = 128;
 
-/// The most formals of a module.
-pub const MAX_FORMALS: usize = 256;
-
 /// Why no source is read.
 #[derive(Clone, Copy, Debug, PartialEq, Eq)]
 pub enum NoSource {

@@ -1,22 +1,26 @@
 //! From the tree as it is written to the core tree: names become numbers, lists become sequences.
 
-ghost use Rattle.std.specs.Prelude.{ℕ, ◌≡◌, ◌↔◌, ◌+◌, ◌<◌, ◌≤◌, ◌^◌, [], replicate, None, Some, IsTrue, length, IfOk, IfErr, MatchOption};
+ghost use Rattle.std.specs.Prelude.{ℕ, ◌≡◌, ◌↔◌, ◌+◌, ◌<◌, ◌≤◌, ◌^◌, [], replicate, None, Some, IsTrue, length, IfOk, OnOk, IfErr, MatchOption};
 ghost use Rattle.std.specs.Str.{chars};
 ghost use Rattle.qz_values.specs.Values.{yes};
 ghost use Rattle.qz_syntax.specs.Sizes.{size_of};
 ghost use Rattle.qz_syntax.specs.declared.expressions.Expr.TheVariants.{Lit};
 ghost use Rattle.qz_syntax.specs.declared.expressions.Var.TheVariants as variable;
 ghost use Rattle.qz_syntax.specs.declared.statements.Stmt.TheVariants as stmt;
-ghost use Rattle.qz_driver.specs.CoreTree.{IsAsked, core_module, number_of, differ, sequence, emits_formals, core, cores};
+ghost use Rattle.qz_driver.specs.CoreTree.{IsAsked, core_module, number_of, differ, sequence, names_of, core, cores};
 ghost use Rattle.qz_driver.specs.Reading.{OnNotBuilt};
 ghost use Rattle.qz_driver.specs.Typing.{IsCore, AreCores, NoCore, NoCores};
 
-use crate::reader::{MAX_FORMALS, NoSource};
+use crate::formal_numbers::FormalNumbers;
+use crate::reader::NoSource;
 use crate::source::{SourceModule, SourceStmt};
 use qz_syntax::{Expr, Formal, Module, Name, Stmt, Var, size};
 use qz_values::Value;
 use sqlite_items::{Boxed, Items};
 use std::alloc::Global;
+
+/// The most formals of a module.
+pub const MAX_FORMALS: usize = 256;
 
 /// The largest size of a module, in units.
 pub const MAX_UNITS: u64 = 100_000;
@@ -63,7 +67,7 @@ pub fn typed(alloc: Global, name: &str, source: SourceModule) -> Result<Module, 
         places: 0,
         loops: 0,
     };
-    let body = members(
+    let body = body(
         alloc,
         source.formals.as_slice(),
         &mut counts,
@@ -73,14 +77,11 @@ pub fn typed(alloc: Global, name: &str, source: SourceModule) -> Result<Module, 
     small(module_of(alloc, source, labels, counts.loops, sequence(body)))
 }
 
-/// Whether the source has this name, not too many formals, and no two of one name.
+/// Whether the source has this name, and not too many formals.
 fn has_head(name: &str, source: &SourceModule) -> bool
-    ensures { IsTrue result ↔ ((source.now.name ≡ chars name.now) × (length source.now.formals ≤ 256) × IsTrue (differ source.now.formals)) }
+    ensures { IsTrue result ↔ ((source.now.name ≡ chars name.now) × (length source.now.formals ≤ 256)) }
 {
-    if !is_named(&source.name, name) || source.formals.len() > MAX_FORMALS {
-        return false;
-    }
-    differ(source.formals.as_slice())
+    is_named(&source.name, name) && source.formals.len() <= MAX_FORMALS
 }
 
 /// Whether the name has this text.
@@ -90,25 +91,22 @@ fn is_named(name: &Name, text: &str) -> bool
     name.as_str() == text
 }
 
-/// Whether each name stands once.
-fn differ(formals: &[Formal]) -> bool
-    ensures { result ≡ differ formals.now }
+/// The core statements of a module's body, if the names of its formals differ.
+fn body(
+    alloc: Global,
+    formals: &[Formal],
+    counts: &mut Counts,
+    parts: &[SourceStmt],
+) -> Result<Items<Stmt>, NoSource>
+    ensures core { IfOk result (λ stmts. AreCores (names_of formals.now) parts.now counts.old stmts counts.new) }
+    ensures apart { OnOk result (IsTrue (differ (names_of formals.now))) }
+    ensures none { IfErr result (λ fault. OnNotBuilt fault
+        (IsTrue (differ (names_of formals.now)) → NoCores (names_of formals.now) parts.now counts.old)) }
 {
-    let mut rest = formals;
-    while let Some((formal, others)) = rest.split_first() {
-        if number_of(others, &formal.name).is_some() {
-            return false;
-        }
-        rest = others;
+    match FormalNumbers::new(alloc, formals)? {
+        Some(numbers) => members(alloc, &numbers, counts, parts),
+        None => Err(NoSource::NotBuilt),
     }
-    true
-}
-
-/// The number of the first formal of this name.
-fn number_of(formals: &[Formal], name: &Name) -> Option<usize>
-    ensures { result ≡ number_of formals.now name.now }
-{
-    formals.iter().position(|formal| formal.name == *name)
 }
 
 /// The module, if it isn't too large.
@@ -161,16 +159,16 @@ fn unlabeled(alloc: Global, places: u32) -> Result<Items<Option<Name>>, NoSource
 #[cycle(core)]
 fn members(
     alloc: Global,
-    formals: &[Formal],
+    numbers: &FormalNumbers,
     counts: &mut Counts,
     parts: &[SourceStmt],
 ) -> Result<Items<Stmt>, NoSource>
-    ensures core { IfOk result (λ stmts. AreCores formals.now parts.now counts.old stmts counts.new) }
-    ensures none { IfErr result (λ fault. OnNotBuilt fault (NoCores formals.now parts.now counts.old)) }
+    ensures core { IfOk result (λ stmts. AreCores numbers.now parts.now counts.old stmts counts.new) }
+    ensures none { IfErr result (λ fault. OnNotBuilt fault (NoCores numbers.now parts.now counts.old)) }
 {
     let mut members = Items::new(alloc);
     for part in parts {
-        members.push(statement(alloc, formals, counts, part)?)?;
+        members.push(statement(alloc, numbers, counts, part)?)?;
     }
     Ok(members)
 }
@@ -178,12 +176,12 @@ fn members(
 #[cycle(core)]
 fn statement(
     alloc: Global,
-    formals: &[Formal],
+    numbers: &FormalNumbers,
     counts: &mut Counts,
     source: &SourceStmt,
 ) -> Result<Stmt, NoSource>
-    ensures core { IfOk result (λ s. IsCore formals.now source.now counts.old s counts.new) }
-    ensures none { IfErr result (λ fault. OnNotBuilt fault (NoCore formals.now source.now counts.old)) }
+    ensures core { IfOk result (λ s. IsCore numbers.now source.now counts.old s counts.new) }
+    ensures none { IfErr result (λ fault. OnNotBuilt fault (NoCore numbers.now source.now counts.old)) }
 {
     match source {
         SourceStmt::Nothing => Ok(Stmt::Nothing),
@@ -191,7 +189,7 @@ fn statement(
             Some(place) => Ok(Stmt::Pause(place)),
             None => Err(NoSource::NotBuilt),
         },
-        SourceStmt::Emit(name) => match emit(formals, name) {
+        SourceStmt::Emit(name) => match emit(numbers, name) {
             Some(stmt) => Ok(stmt),
             None => Err(NoSource::NotBuilt),
         },
@@ -199,7 +197,7 @@ fn statement(
             let Some(turn) = counts.turn() else {
                 return Err(NoSource::NotBuilt);
             };
-            let body = statement(alloc, formals, counts, body.get())?;
+            let body = statement(alloc, numbers, counts, body.get())?;
             Ok(Stmt::Loop(
                 turn,
                 Boxed::new(alloc, body)?,
@@ -207,18 +205,18 @@ fn statement(
             ))
         }
         SourceStmt::Block(parts) => {
-            let members = members(alloc, formals, counts, parts.as_slice())?;
+            let members = members(alloc, numbers, counts, parts.as_slice())?;
             Ok(sequence(members))
         }
     }
 }
 
 /// `emit x`, which is `x = true`.
-fn emit(formals: &[Formal], name: &Name) -> Option<Stmt>
-    ensures { MatchOption result (length formals.now ≤ 256 → number_of formals.now name.now ≡ None)
-        (λ s. (number : ℕ) × (number_of formals.now name.now ≡ Some number) × (s ≡ stmt.Assign (variable.Formal number) (Lit yes))) }
+fn emit(numbers: &FormalNumbers, name: &Name) -> Option<Stmt>
+    ensures { MatchOption result (length numbers.now ≤ 256 → number_of numbers.now name.now ≡ None)
+        (λ s. (number : ℕ) × (number_of numbers.now name.now ≡ Some number) × (s ≡ stmt.Assign (variable.Formal number) (Lit yes))) }
 {
-    let number = number_of(formals, name)?;
+    let number = numbers.number_of(name)?;
     match u32::try_from(number) {
         Ok(number) => Some(Stmt::Assign(Var::Formal(number), Expr::Lit(Value::truth(true)))),
         Err(_) => None,

@@ -34,8 +34,7 @@ surface_of_all-loop-part-preserved t c = record {
       (still_has registers _ _ _ c.in_ok-part_ends.ensures.extends before.1) written.1 in
       let ends = c.in_ok-ends-2.ensures.declares registers start.sound
       (still_has registers _ _ _ (through _ _ _ c.in_ok-part_ends.ensures.extends c.and.ensures.extends) before.2)
-      (still_has registers _ _ _ c.and.ensures.extends written.1) in
-      (
+      (still_has registers _ _ _ c.and.ensures.extends written.1) in (
         writes_stay registers _ _ (through _ _ _ c.and.ensures.extends c.and-in-loop-part.ensures.extends) ends.sound _ written.0,
         still_has registers _ _ _ c.and-in-loop-part.ensures.extends start.has,
         ends.has,
