@@ -1,12 +1,12 @@
 -- What the walk for a circuit appends, read as bits.
-use Rattle.std.specs.Prelude.{ℕ, ◌≡◌, ◌<◌, ◌==◌, ◌&&◌, ◌||◌, List, map, length, slice_index_or}
+use Rattle.std.specs.Prelude.{ℕ, ◌≡◌, ◌<◌, ◌==◌, ◌&&◌, ◌||◌, List, ◌++◌, map, length, slice_index_or}
 use Rattle.qz_driver.specs.declared.driven.DrivenWrite.{DrivenWrite}
 use Rattle.qz_driver.specs.declared.driven.DrivenPlace.{DrivenPlace}
 use Rattle.qz_driver.specs.declared.verilog.Ref.{Ref}
 use Rattle.qz_driver.specs.declared.wires.Wires.{Wires}
 use Rattle.qz_driver.specs.Mirror.{Bits, is_driven}
 use Rattle.qz_driver.specs.Verilog.{Nets, bit_at}
-use Rattle.qz_driver.specs.WireTable.{Has, IsSound}
+use Rattle.qz_driver.specs.WireTable.{Reads, Has, IsSound}
 
 -- the places where control rests, each with whether it does
 abbrev pub rests_as_bits : Nets → List DrivenPlace → Bits
@@ -15,6 +15,13 @@ rests_as_bits nets rests = map (λ rest. (rest.place, bit_at nets rest.when)) re
 -- the outputs that are written, each with whether it is driven
 abbrev pub writes_as_bits : Nets → List DrivenWrite → Bits
 writes_as_bits nets writes = map (λ write. (write.output, bit_at nets write.guard && bit_at nets write.value)) writes
+
+-- whatever settles the table, entries with these bits were appended
+abbrev pub AppendsRests : Wires → List DrivenPlace → List DrivenPlace → (Nets → Bits) → Type 0
+AppendsRests wires old new bits = (nets : Nets) → Reads nets wires → rests_as_bits nets new ≡ rests_as_bits nets old ++ bits nets
+
+abbrev pub AppendsWrites : Wires → List DrivenWrite → List DrivenWrite → (Nets → Bits) → Type 0
+AppendsWrites wires old new bits = (nets : Nets) → Reads nets wires → writes_as_bits nets new ≡ writes_as_bits nets old ++ bits nets
 
 -- nets by number, each true exactly where some entry of its number is
 abbrev pub AreDriven : Nets → Bits → List Ref → Type 0

@@ -1,9 +1,9 @@
 -- A table of wires as it grows: the values that settle it, and the nets that it declares.
-use Rattle.std.specs.Prelude.{ℕ, ◌≡◌, ◌≤◌, List, length, Some, slice_get}
+use Rattle.std.specs.Prelude.{ℕ, Bool, ◌≡◌, ◌≤◌, List, length, Some, slice_get}
 use Rattle.qz_driver.specs.declared.wires.Wires.{Wires}
 use Rattle.qz_driver.specs.declared.verilog.Ref.{Ref}
 use Rattle.qz_driver.specs.declared.verilog.Rhs.{Rhs}
-use Rattle.qz_driver.specs.Verilog.{Nets, Settles, IsDeclared, ReadsDeclared}
+use Rattle.qz_driver.specs.Verilog.{Nets, bit_at, Settles, IsDeclared, ReadsDeclared}
 
 -- the right sides in the order of the wires' numbers
 abbrev pub rights : Wires → List Rhs
@@ -12,6 +12,10 @@ rights wires = wires.table.keys
 -- values of the nets that settle the table
 pub record Reads (nets : Nets) (wires : Wires) : Type 0 where
   pub settles : Settles (rights wires) nets
+
+-- whatever settles the table, the net has this value
+abbrev pub Carries : Wires → Ref → (Nets → Bool) → Type 0
+Carries wires net value = (nets : Nets) → Reads nets wires → bit_at nets net ≡ value nets
 
 -- a net that is a register, or one of the wires
 pub record Has (registers : ℕ) (wires : Wires) (net : Ref) : Type 0 where

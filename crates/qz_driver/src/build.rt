@@ -40,7 +40,8 @@ impl From<AllocError> for Stop<'_> {
 /// The Verilog text of the module that was asked for, from what was found under the file's name.
 pub fn verilog_of<'w>(alloc: Global, build: Build<'w>, got: &Got) -> Result<String, Stop<'w>>
     requires { IfBytes got.now (λ bytes. length bytes ≤ 1048576) }
-    ensures answer { MatchResult result (λ _. MadeFrom build.entry.name.now got.now) (StopsAt build.entry.name.now build.entry.file.now got.now) }
+    ensures answer { MatchResult result
+        (λ _. MadeFrom build.entry.name.now got.now) (StopsAt build.entry.name.now build.entry.file.now got.now) }
     ensures does { IfOk result (λ text. TextFrom build.entry.name.now got.now (string_bytes text)) }
 {
     match got {

@@ -56,8 +56,10 @@ fn all_writes(
     ensures means { IfOk result (λ writes. (nets : Nets) → Reads nets wires.new →
         writes_as_bits nets writes.items ≡ (mirror_of body.now).start (bit_at nets start)
         ++ (mirror_of body.now).resume nets.registers (bit_at nets always)) }
-    ensures declares { IfOk result (λ writes. (registers : ℕ) → rests_below registers body.now ≡ true → IsSound registers wires.old →
-        Has registers wires.old start → Has registers wires.old always → DeclaresWrites registers wires.new writes.items) }
+    ensures declares { IfOk result (λ writes. (registers : ℕ) → rests_below registers body.now ≡ true →
+        IsSound registers wires.old →
+        Has registers wires.old start → Has registers wires.old always →
+        DeclaresWrites registers wires.new writes.items) }
 {
     let mut writes = Vec::new(alloc);
     surface(wires, &mut writes, body, start)?;
@@ -76,7 +78,8 @@ fn all_rests(
     ensures means { IfOk result (λ rests. (nets : Nets) → Reads nets wires.new →
         rests_as_bits nets rests.items ≡ (mirror_of body.now).enter (bit_at nets start)
         ++ (mirror_of body.now).move nets.registers) }
-    ensures declares { IfOk result (λ rests. (registers : ℕ) → rests_below registers body.now ≡ true → IsSound registers wires.old →
+    ensures declares { IfOk result (λ rests. (registers : ℕ) → rests_below registers body.now ≡ true →
+        IsSound registers wires.old →
         Has registers wires.old start → DeclaresRests registers wires.new rests.items) }
 {
     let mut rests = Vec::new(alloc);
@@ -90,7 +93,8 @@ fn undriven(alloc: Global, wires: &mut Wires, count: usize) -> Result<Vec<Ref>, 
     ensures extends { OnOk result (Extends wires.old wires.new) }
     ensures count { IfOk result (λ row. length row.items ≡ count) }
     ensures means { IfOk result (λ row. (nets : Nets) → Reads nets wires.new → AreDriven nets [] row.items) }
-    ensures declares { IfOk result (λ row. (registers : ℕ) → IsSound registers wires.old → DeclaresRow registers wires.new row.items) }
+    ensures declares { IfOk result (λ row. (registers : ℕ) → IsSound registers wires.old →
+        DeclaresRow registers wires.new row.items) }
 {
     let never = wires.constant(false)?;
     let row = vec![in alloc; never; count]?;
@@ -106,7 +110,8 @@ fn outs(
 ) -> Result<Vec<Ref>, AllocError>
     ensures extends { OnOk result (Extends wires.old wires.new) }
     ensures count { IfOk result (λ row. length row.items ≡ count) }
-    ensures means { IfOk result (λ row. (nets : Nets) → Reads nets wires.new → AreDriven nets (writes_as_bits nets writes.now) row.items) }
+    ensures means { IfOk result (λ row. (nets : Nets) → Reads nets wires.new →
+        AreDriven nets (writes_as_bits nets writes.now) row.items) }
     ensures declares { IfOk result (λ row. (registers : ℕ) → DeclaresWrites registers wires.old writes.now →
         DeclaresRow registers wires.new row.items) }
 {
@@ -128,9 +133,11 @@ fn nexts(
 ) -> Result<Vec<Ref>, AllocError>
     ensures extends { OnOk result (Extends wires.old wires.new) }
     ensures means { IfOk result (λ row. (nets : Nets) → Reads nets wires.new → (places_row : List Ref)
-        × (row.items ≡ places_row ++ started ∷ []) × (length places_row ≡ places) × AreDriven nets (rests_as_bits nets rests.now) places_row) }
+        × (row.items ≡ places_row ++ started ∷ []) × (length places_row ≡ places)
+        × AreDriven nets (rests_as_bits nets rests.now) places_row) }
     ensures count { IfOk result (λ row. length row.items ≡ places + 1) }
-    ensures declares { IfOk result (λ row. (registers : ℕ) → DeclaresRests registers wires.old rests.now → Has registers wires.old started →
+    ensures declares { IfOk result (λ row. (registers : ℕ) → DeclaresRests registers wires.old rests.now →
+        Has registers wires.old started →
         DeclaresRow registers wires.new row.items) }
 {
     let mut nexts = next_places(alloc, wires, places, rests)?;
@@ -147,7 +154,8 @@ fn next_places(
 ) -> Result<Vec<Ref>, AllocError>
     ensures extends { OnOk result (Extends wires.old wires.new) }
     ensures count { IfOk result (λ row. length row.items ≡ places) }
-    ensures means { IfOk result (λ row. (nets : Nets) → Reads nets wires.new → AreDriven nets (rests_as_bits nets rests.now) row.items) }
+    ensures means { IfOk result (λ row. (nets : Nets) → Reads nets wires.new →
+        AreDriven nets (rests_as_bits nets rests.now) row.items) }
     ensures declares { IfOk result (λ row. (registers : ℕ) → DeclaresRests registers wires.old rests.now →
         DeclaresRow registers wires.new row.items) }
 {
@@ -161,8 +169,10 @@ fn next_places(
 /// One more net that drives the number's.
 fn drive(wires: &mut Wires, nets: &mut [Ref], number: usize, more: Ref) -> Result<(), AllocError>
     ensures extends { OnOk result (Extends wires.old wires.new) }
-    ensures means { OnOk result ((values : Nets) → Reads values wires.new → IsDrivenMore values number more nets.old nets.new) }
-    ensures declares { OnOk result ((registers : ℕ) → Has registers wires.old more → DeclaresRow registers wires.old nets.old →
+    ensures means { OnOk result ((values : Nets) → Reads values wires.new →
+        IsDrivenMore values number more nets.old nets.new) }
+    ensures declares { OnOk result ((registers : ℕ) → Has registers wires.old more →
+        DeclaresRow registers wires.old nets.old →
         DeclaresRow registers wires.new nets.new) }
 {
     if number < nets.len() {

@@ -2,12 +2,12 @@
 //!
 //! The register of a place says that control rests there.
 
-ghost use Rattle.std.specs.Prelude.{◌≡◌, ℕ, true, false, ◌&&◌, not, ◌++◌, List, [], ◌∷◌, map, IfOk, OnOk};
+ghost use Rattle.std.specs.Prelude.{◌≡◌, ℕ, true, false, ◌&&◌, not, ◌++◌, [], ◌∷◌, map, IfOk, OnOk};
 ghost use Rattle.qz_driver.specs.Verilog.{Nets, bit_at};
-ghost use Rattle.qz_driver.specs.WireTable.{Reads, Extends, Has};
+ghost use Rattle.qz_driver.specs.WireTable.{Extends, Has, Carries};
 ghost use Rattle.qz_driver.specs.declared.wires.Wires.{Wires};
 ghost use Rattle.qz_driver.specs.RestsBelow.{rests_below, all_rest_below};
-ghost use Rattle.qz_driver.specs.Driven.{rests_as_bits, DeclaresRests};
+ghost use Rattle.qz_driver.specs.Driven.{rests_as_bits, DeclaresRests, AppendsRests};
 ghost use Rattle.qz_driver.specs.Mirror.{mirror_of, bit_of, all_at_once, enter_all, ended_all, move_all, turns_by};
 
 use crate::driven::DrivenPlace;
@@ -27,10 +27,11 @@ pub fn enter(
     start: Ref,
 ) -> Result<Ref, AllocError>
     ensures extends { OnOk result (Extends wires.old wires.new) }
-    ensures ends { IfOk result (λ ends. (nets : Nets) → Reads nets wires.new → bit_at nets ends ≡ (mirror_of s.now).at_once) }
-    ensures means { OnOk result ((nets : Nets) → Reads nets wires.new →
-        rests_as_bits nets rests.new.items ≡ rests_as_bits nets rests.old.items ++ (mirror_of s.now).enter (bit_at nets start)) }
-    ensures declares { IfOk result (λ ends. (registers : ℕ) → rests_below registers s.now ≡ true → Has registers wires.old start →
+    ensures ends { IfOk result (λ ends. Carries wires.new ends (λ nets. (mirror_of s.now).at_once)) }
+    ensures means { OnOk result (AppendsRests wires.new rests.old.items rests.new.items
+        (λ nets. (mirror_of s.now).enter (bit_at nets start))) }
+    ensures declares { IfOk result (λ ends. (registers : ℕ) → rests_below registers s.now ≡ true →
+        Has registers wires.old start →
         DeclaresRests registers wires.old rests.old.items →
         DeclaresRests registers wires.new rests.new.items × Has registers wires.new ends) }
 {
@@ -50,9 +51,9 @@ fn enter_pause(
     when: Ref,
 ) -> Result<Ref, AllocError>
     ensures extends { OnOk result (Extends wires.old wires.new) }
-    ensures ends { IfOk result (λ ends. (nets : Nets) → Reads nets wires.new → bit_at nets ends ≡ false) }
-    ensures means { OnOk result ((nets : Nets) → Reads nets wires.new →
-        rests_as_bits nets rests.new.items ≡ rests_as_bits nets rests.old.items ++ ((place, bit_at nets when) ∷ [])) }
+    ensures ends { IfOk result (λ ends. Carries wires.new ends (λ nets. false)) }
+    ensures means { OnOk result (AppendsRests wires.new rests.old.items rests.new.items
+        (λ nets. (place, bit_at nets when) ∷ [])) }
     ensures declares { IfOk result (λ ends. (registers : ℕ) → Has registers wires.old when →
         DeclaresRests registers wires.old rests.old.items →
         DeclaresRests registers wires.new rests.new.items × Has registers wires.new ends) }
@@ -65,7 +66,8 @@ fn enter_pause(
 /// One more place where control rests.
 fn rest(rests: &mut Vec<DrivenPlace>, place: u32, when: Ref) -> Result<(), AllocError>
     ensures means { OnOk result ((nets : Nets) →
-        rests_as_bits nets rests.new.items ≡ rests_as_bits nets rests.old.items ++ ((place, bit_at nets when) ∷ [])) }
+        rests_as_bits nets rests.new.items ≡ rests_as_bits nets rests.old.items
+        ++ ((place, bit_at nets when) ∷ [])) }
     ensures declares { OnOk result ((registers : ℕ) (wires : Wires) → Has registers wires when →
         DeclaresRests registers wires rests.old.items → DeclaresRests registers wires rests.new.items) }
 {
@@ -82,10 +84,11 @@ fn enter_loop(
     start: Ref,
 ) -> Result<Ref, AllocError>
     ensures extends { OnOk result (Extends wires.old wires.new) }
-    ensures ends { IfOk result (λ ends. (nets : Nets) → Reads nets wires.new → bit_at nets ends ≡ false) }
-    ensures means { OnOk result ((nets : Nets) → Reads nets wires.new →
-        rests_as_bits nets rests.new.items ≡ rests_as_bits nets rests.old.items ++ (mirror_of body.now).enter (bit_at nets start)) }
-    ensures declares { IfOk result (λ ends. (registers : ℕ) → rests_below registers body.now ≡ true → Has registers wires.old start →
+    ensures ends { IfOk result (λ ends. Carries wires.new ends (λ nets. false)) }
+    ensures means { OnOk result (AppendsRests wires.new rests.old.items rests.new.items
+        (λ nets. (mirror_of body.now).enter (bit_at nets start))) }
+    ensures declares { IfOk result (λ ends. (registers : ℕ) → rests_below registers body.now ≡ true →
+        Has registers wires.old start →
         DeclaresRests registers wires.old rests.old.items →
         DeclaresRests registers wires.new rests.new.items × Has registers wires.new ends) }
 {
@@ -103,10 +106,12 @@ fn enter_first(
     start: Ref,
 ) -> Result<Ref, AllocError>
     ensures extends { OnOk result (Extends wires.old wires.new) }
-    ensures ends { IfOk result (λ ends. (nets : Nets) → Reads nets wires.new → bit_at nets ends ≡ all_at_once (map mirror_of parts.now)) }
-    ensures means { OnOk result ((nets : Nets) → Reads nets wires.new →
-        rests_as_bits nets rests.new.items ≡ rests_as_bits nets rests.old.items ++ enter_all (map mirror_of parts.now) (bit_at nets start)) }
-    ensures declares { IfOk result (λ ends. (registers : ℕ) → all_rest_below registers parts.now ≡ true → Has registers wires.old start →
+    ensures ends { IfOk result (λ ends. Carries wires.new ends
+        (λ nets. all_at_once (map mirror_of parts.now))) }
+    ensures means { OnOk result (AppendsRests wires.new rests.old.items rests.new.items
+        (λ nets. enter_all (map mirror_of parts.now) (bit_at nets start))) }
+    ensures declares { IfOk result (λ ends. (registers : ℕ) → all_rest_below registers parts.now ≡ true →
+        Has registers wires.old start →
         DeclaresRests registers wires.old rests.old.items →
         DeclaresRests registers wires.new rests.new.items × Has registers wires.new ends) }
 {
@@ -125,9 +130,10 @@ fn enter_first(
 #[cycle(moves)]
 pub fn moves(wires: &mut Wires, rests: &mut Vec<DrivenPlace>, s: &Stmt) -> Result<Ref, AllocError>
     ensures extends { OnOk result (Extends wires.old wires.new) }
-    ensures ends { IfOk result (λ ends. (nets : Nets) → Reads nets wires.new → bit_at nets ends ≡ (mirror_of s.now).ended nets.registers) }
-    ensures means { OnOk result ((nets : Nets) → Reads nets wires.new →
-        rests_as_bits nets rests.new.items ≡ rests_as_bits nets rests.old.items ++ (mirror_of s.now).move nets.registers) }
+    ensures ends { IfOk result (λ ends. Carries wires.new ends
+        (λ nets. (mirror_of s.now).ended nets.registers)) }
+    ensures means { OnOk result (AppendsRests wires.new rests.old.items rests.new.items
+        (λ nets. (mirror_of s.now).move nets.registers)) }
     ensures declares { IfOk result (λ ends. (registers : ℕ) → rests_below registers s.now ≡ true →
         DeclaresRests registers wires.old rests.old.items →
         DeclaresRests registers wires.new rests.new.items × Has registers wires.new ends) }
@@ -149,11 +155,11 @@ fn moves_round(
     condition: &Expr,
 ) -> Result<Ref, AllocError>
     ensures extends { OnOk result (Extends wires.old wires.new) }
-    ensures ends { IfOk result (λ ends. (nets : Nets) → Reads nets wires.new →
-        bit_at nets ends ≡ ((mirror_of body.now).ended nets.registers && not (bit_of condition.now))) }
-    ensures means { OnOk result ((nets : Nets) → Reads nets wires.new →
-        rests_as_bits nets rests.new.items ≡ rests_as_bits nets rests.old.items
-        ++ ((mirror_of body.now).move nets.registers ++ (mirror_of body.now).enter (turns_by (mirror_of body.now) condition.now nets.registers))) }
+    ensures ends { IfOk result (λ ends. Carries wires.new ends
+        (λ nets. (mirror_of body.now).ended nets.registers && not (bit_of condition.now))) }
+    ensures means { OnOk result (AppendsRests wires.new rests.old.items rests.new.items
+        (λ nets. (mirror_of body.now).move nets.registers
+        ++ (mirror_of body.now).enter (turns_by (mirror_of body.now) condition.now nets.registers))) }
     ensures declares { IfOk result (λ ends. (registers : ℕ) → rests_below registers body.now ≡ true →
         DeclaresRests registers wires.old rests.old.items →
         DeclaresRests registers wires.new rests.new.items × Has registers wires.new ends) }
@@ -173,10 +179,10 @@ fn moves_on(
     parts: &[Stmt],
 ) -> Result<Ref, AllocError>
     ensures extends { OnOk result (Extends wires.old wires.new) }
-    ensures ends { IfOk result (λ ends. (nets : Nets) → Reads nets wires.new →
-        bit_at nets ends ≡ ended_all (map mirror_of parts.now) nets.registers false) }
-    ensures means { OnOk result ((nets : Nets) → Reads nets wires.new →
-        rests_as_bits nets rests.new.items ≡ rests_as_bits nets rests.old.items ++ move_all (map mirror_of parts.now) nets.registers false) }
+    ensures ends { IfOk result (λ ends. Carries wires.new ends
+        (λ nets. ended_all (map mirror_of parts.now) nets.registers false)) }
+    ensures means { OnOk result (AppendsRests wires.new rests.old.items rests.new.items
+        (λ nets. move_all (map mirror_of parts.now) nets.registers false)) }
     ensures declares { IfOk result (λ ends. (registers : ℕ) → all_rest_below registers parts.now ≡ true →
         DeclaresRests registers wires.old rests.old.items →
         DeclaresRests registers wires.new rests.new.items × Has registers wires.new ends) }

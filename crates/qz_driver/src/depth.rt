@@ -1,10 +1,10 @@
 //! What a statement does in a step in which control rests inside it.
 
-ghost use Rattle.std.specs.Prelude.{◌≡◌, ℕ, true, false, ◌&&◌, not, ◌++◌, List, map, OnOk, IfOk};
-ghost use Rattle.qz_driver.specs.Verilog.{Nets, bit_at};
-ghost use Rattle.qz_driver.specs.WireTable.{Reads, Extends, Has};
+ghost use Rattle.std.specs.Prelude.{◌≡◌, ℕ, true, false, ◌&&◌, not, ◌++◌, map, OnOk, IfOk};
+ghost use Rattle.qz_driver.specs.Verilog.{bit_at};
+ghost use Rattle.qz_driver.specs.WireTable.{Extends, Has, Carries};
 ghost use Rattle.qz_driver.specs.RestsBelow.{rests_below, all_rest_below};
-ghost use Rattle.qz_driver.specs.Driven.{writes_as_bits, DeclaresWrites};
+ghost use Rattle.qz_driver.specs.Driven.{DeclaresWrites, AppendsWrites};
 ghost use Rattle.qz_driver.specs.Mirror.{mirror_of, ended_all, resume_all, turns_by, bit_of};
 
 use crate::driven::DrivenWrite;
@@ -25,10 +25,12 @@ pub fn depth(
     act: Ref,
 ) -> Result<Ref, AllocError>
     ensures extends { OnOk result (Extends wires.old wires.new) }
-    ensures ends { IfOk result (λ ends. (nets : Nets) → Reads nets wires.new → bit_at nets ends ≡ (mirror_of s.now).ended nets.registers) }
-    ensures means { OnOk result ((nets : Nets) → Reads nets wires.new →
-        writes_as_bits nets writes.new.items ≡ writes_as_bits nets writes.old.items ++ (mirror_of s.now).resume nets.registers (bit_at nets act)) }
-    ensures declares { IfOk result (λ ends. (registers : ℕ) → rests_below registers s.now ≡ true → Has registers wires.old act →
+    ensures ends { IfOk result (λ ends. Carries wires.new ends
+        (λ nets. (mirror_of s.now).ended nets.registers)) }
+    ensures means { OnOk result (AppendsWrites wires.new writes.old.items writes.new.items
+        (λ nets. (mirror_of s.now).resume nets.registers (bit_at nets act))) }
+    ensures declares { IfOk result (λ ends. (registers : ℕ) → rests_below registers s.now ≡ true →
+        Has registers wires.old act →
         DeclaresWrites registers wires.old writes.old.items →
         DeclaresWrites registers wires.new writes.new.items × Has registers wires.new ends) }
 {
@@ -50,13 +52,13 @@ fn depth_of_loop(
     act: Ref,
 ) -> Result<Ref, AllocError>
     ensures extends { OnOk result (Extends wires.old wires.new) }
-    ensures ends { IfOk result (λ ends. (nets : Nets) → Reads nets wires.new →
-        bit_at nets ends ≡ ((mirror_of body.now).ended nets.registers && not (bit_of condition.now))) }
-    ensures means { OnOk result ((nets : Nets) → Reads nets wires.new →
-        writes_as_bits nets writes.new.items ≡ writes_as_bits nets writes.old.items
-        ++ ((mirror_of body.now).resume nets.registers (bit_at nets act)
+    ensures ends { IfOk result (λ ends. Carries wires.new ends
+        (λ nets. (mirror_of body.now).ended nets.registers && not (bit_of condition.now))) }
+    ensures means { OnOk result (AppendsWrites wires.new writes.old.items writes.new.items
+        (λ nets. (mirror_of body.now).resume nets.registers (bit_at nets act)
         ++ (mirror_of body.now).start (bit_at nets act && turns_by (mirror_of body.now) condition.now nets.registers))) }
-    ensures declares { IfOk result (λ ends. (registers : ℕ) → rests_below registers body.now ≡ true → Has registers wires.old act →
+    ensures declares { IfOk result (λ ends. (registers : ℕ) → rests_below registers body.now ≡ true →
+        Has registers wires.old act →
         DeclaresWrites registers wires.old writes.old.items →
         DeclaresWrites registers wires.new writes.new.items × Has registers wires.new ends) }
 {
@@ -77,11 +79,12 @@ fn depth_of_all(
     act: Ref,
 ) -> Result<Ref, AllocError>
     ensures extends { OnOk result (Extends wires.old wires.new) }
-    ensures ends { IfOk result (λ ends. (nets : Nets) → Reads nets wires.new →
-        bit_at nets ends ≡ ended_all (map mirror_of parts.now) nets.registers false) }
-    ensures means { OnOk result ((nets : Nets) → Reads nets wires.new →
-        writes_as_bits nets writes.new.items ≡ writes_as_bits nets writes.old.items ++ resume_all (map mirror_of parts.now) nets.registers (bit_at nets act) false) }
-    ensures declares { IfOk result (λ ends. (registers : ℕ) → all_rest_below registers parts.now ≡ true → Has registers wires.old act →
+    ensures ends { IfOk result (λ ends. Carries wires.new ends
+        (λ nets. ended_all (map mirror_of parts.now) nets.registers false)) }
+    ensures means { OnOk result (AppendsWrites wires.new writes.old.items writes.new.items
+        (λ nets. resume_all (map mirror_of parts.now) nets.registers (bit_at nets act) false)) }
+    ensures declares { IfOk result (λ ends. (registers : ℕ) → all_rest_below registers parts.now ≡ true →
+        Has registers wires.old act →
         DeclaresWrites registers wires.old writes.old.items →
         DeclaresWrites registers wires.new writes.new.items × Has registers wires.new ends) }
 {

@@ -1,8 +1,8 @@
 //! Where statements end, as nets over the ends of their parts.
 
-ghost use Rattle.std.specs.Prelude.{◌≡◌, ℕ, ◌&&◌, ◌||◌, not, IfOk, OnOk};
-ghost use Rattle.qz_driver.specs.Verilog.{Nets, bit_at};
-ghost use Rattle.qz_driver.specs.WireTable.{Reads, Extends, Has, IsSound, Declares};
+ghost use Rattle.std.specs.Prelude.{ℕ, ◌&&◌, ◌||◌, not, IfOk, OnOk};
+ghost use Rattle.qz_driver.specs.Verilog.{bit_at};
+ghost use Rattle.qz_driver.specs.WireTable.{Extends, Has, IsSound, Declares, Carries};
 ghost use Rattle.qz_driver.specs.Mirror.{bit_of};
 
 use crate::verilog::{Ref, is_true};
@@ -13,8 +13,9 @@ use std::alloc::AllocError;
 /// The value of an expression.
 pub fn value(wires: &mut Wires, e: &Expr) -> Result<Ref, AllocError>
     ensures extends { OnOk result (Extends wires.old wires.new) }
-    ensures means { IfOk result (λ net. (nets : Nets) → Reads nets wires.new → bit_at nets net ≡ bit_of e.now) }
-    ensures declares { IfOk result (λ net. (registers : ℕ) → IsSound registers wires.old → Declares registers wires.new net) }
+    ensures means { IfOk result (λ net. Carries wires.new net (λ nets. bit_of e.now)) }
+    ensures declares { IfOk result (λ net. (registers : ℕ) → IsSound registers wires.old →
+        Declares registers wires.new net) }
 {
     match e {
         Expr::Lit(v) => wires.constant(is_true(*v)),
@@ -31,9 +32,10 @@ pub fn ends_after(
     resumed: Ref,
 ) -> Result<Ref, AllocError>
     ensures extends { OnOk result (Extends wires.old wires.new) }
-    ensures means { IfOk result (λ net. (nets : Nets) → Reads nets wires.new →
-        bit_at nets net ≡ ((bit_at nets before && bit_at nets at_once) || bit_at nets resumed)) }
-    ensures declares { IfOk result (λ net. (registers : ℕ) → IsSound registers wires.old → Has registers wires.old before →
+    ensures means { IfOk result (λ net. Carries wires.new net
+        (λ nets. (bit_at nets before && bit_at nets at_once) || bit_at nets resumed)) }
+    ensures declares { IfOk result (λ net. (registers : ℕ) → IsSound registers wires.old →
+        Has registers wires.old before →
         Has registers wires.old at_once → Has registers wires.old resumed → Declares registers wires.new net) }
 {
     let passed = wires.and(before, at_once)?;
@@ -44,9 +46,10 @@ pub fn ends_after(
 /// Resumed, a loop's body ends and its condition holds.
 pub fn turns(wires: &mut Wires, body_ends: Ref, condition: &Expr) -> Result<Ref, AllocError>
     ensures extends { OnOk result (Extends wires.old wires.new) }
-    ensures means { IfOk result (λ net. (nets : Nets) → Reads nets wires.new →
-        bit_at nets net ≡ (bit_at nets body_ends && bit_of condition.now)) }
-    ensures declares { IfOk result (λ net. (registers : ℕ) → IsSound registers wires.old → Has registers wires.old body_ends →
+    ensures means { IfOk result (λ net. Carries wires.new net
+        (λ nets. bit_at nets body_ends && bit_of condition.now)) }
+    ensures declares { IfOk result (λ net. (registers : ℕ) → IsSound registers wires.old →
+        Has registers wires.old body_ends →
         Declares registers wires.new net) }
 {
     let again = value(wires, condition)?;
@@ -57,9 +60,10 @@ pub fn turns(wires: &mut Wires, body_ends: Ref, condition: &Expr) -> Result<Ref,
 /// Resumed, a loop's body ends and its condition doesn't hold.
 pub fn leaves(wires: &mut Wires, body_ends: Ref, condition: &Expr) -> Result<Ref, AllocError>
     ensures extends { OnOk result (Extends wires.old wires.new) }
-    ensures means { IfOk result (λ net. (nets : Nets) → Reads nets wires.new →
-        bit_at nets net ≡ (bit_at nets body_ends && not (bit_of condition.now))) }
-    ensures declares { IfOk result (λ net. (registers : ℕ) → IsSound registers wires.old → Has registers wires.old body_ends →
+    ensures means { IfOk result (λ net. Carries wires.new net
+        (λ nets. bit_at nets body_ends && not (bit_of condition.now))) }
+    ensures declares { IfOk result (λ net. (registers : ℕ) → IsSound registers wires.old →
+        Has registers wires.old body_ends →
         Declares registers wires.new net) }
 {
     let again = value(wires, condition)?;

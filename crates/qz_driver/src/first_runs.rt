@@ -19,7 +19,8 @@ ghost use Rattle.qz_driver.specs.Does.{DoesProgram};
 
 /// A start of a statement of the first language is as its bits say.
 pub fn starts_as_its_bits()
-    ensures { (outputs : ℕ) (s : Stmt) → IsTrue (is_first outputs s) → (scene : Scene) → StartsAs (behavior scene s) (mirror_of s) }
+    ensures { (outputs : ℕ) (s : Stmt) → IsTrue (is_first outputs s) → (scene : Scene) →
+        StartsAs (behavior scene s) (mirror_of s) }
 {}
 
 /// A statement of the first language, whose places are all different, is resumed as its bits say where
@@ -27,7 +28,8 @@ pub fn starts_as_its_bits()
 pub fn resumes_as_its_bits()
     ensures { (outputs : ℕ) (s : Stmt) → IsTrue (is_first outputs s) → AreDifferent (places_of s)
         → (scene : Scene) (control : Control) (r : Residual) → IsTrue ((behavior scene s).fits r)
-        → IsControl control (places_of s) (resting_places r) → ResumesAs (behavior scene s) (mirror_of s) control r }
+        → IsControl control (places_of s) (resting_places r) →
+        ResumesAs (behavior scene s) (mirror_of s) control r }
 {}
 
 /// Where control isn't in it, none of its bits is true.

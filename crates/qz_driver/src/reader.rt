@@ -75,7 +75,8 @@ impl<'t> Cursor<'_, 't> {
     #[tactic(auto, using(crate::proofs::ReadingLemmas::drop_past))]
     fn peek(&self) -> Option<&'t str>
         ensures none { IfNone result (upcoming self.now ≡ []) }
-        ensures some { IfSome result (λ text. upcoming self.now ≡ chars text.now ∷ texts (drop (self.now.read + 1) self.now.tokens.now)) }
+        ensures some { IfSome result (λ text. upcoming self.now
+            ≡ chars text.now ∷ texts (drop (self.now.read + 1) self.now.tokens.now)) }
         ensures within { OnSome result (self.now.read < length self.now.tokens.now) }
     {
         if self.read >= self.tokens.len() {
@@ -86,7 +87,8 @@ impl<'t> Cursor<'_, 't> {
 
     /// Reads the next token, if there is one.
     fn next(&mut self) -> Option<&'t str>
-        ensures { MatchOption result (upcoming self.old ≡ []) (λ text. upcoming self.old ≡ chars text.now ∷ upcoming self.new) }
+        ensures { MatchOption result (upcoming self.old ≡ []) (λ text. upcoming self.old
+            ≡ chars text.now ∷ upcoming self.new) }
     {
         let text = self.peek()?;
         self.read += 1;
@@ -125,7 +127,8 @@ impl<'t> Cursor<'_, 't> {
 
     /// Reads the next token, which is a name.
     fn name(&mut self, alloc: Global) -> Result<Name, NoSource>
-        ensures read { IfOk result (λ name. (upcoming self.old ≡ name ∷ upcoming self.new) × IsTrue (is_name name)) }
+        ensures read { IfOk result (λ name. (upcoming self.old ≡ name ∷ upcoming self.new)
+            × IsTrue (is_name name)) }
         ensures none { IfErr result (λ fault. OnNotBuilt fault (NoName (upcoming self.old))) }
     {
         let Some(text) = self.next() else {
@@ -164,7 +167,8 @@ pub fn one_source()
 fn whole_module(alloc: Global, tokens: &[Token<'_>]) -> Result<SourceModule, NoSource>
     ensures read { IfOk result (λ m. texts tokens.now ≡ module_spelling m) }
     ensures fits { IfOk result FitsModule }
-    ensures none { IfErr result (λ fault. OnNotBuilt fault ((m : SourceModule) → FitsModule m → texts tokens.now ≢ module_spelling m)) }
+    ensures none { IfErr result (λ fault. OnNotBuilt fault ((m : SourceModule) → FitsModule m →
+        texts tokens.now ≢ module_spelling m)) }
 {
     let mut cursor = Cursor { tokens, read: 0 };
     let module = source_module(alloc, &mut cursor)?;
@@ -194,7 +198,8 @@ fn source_module(alloc: Global, cursor: &mut Cursor<'_, '_>) -> Result<SourceMod
 
 /// The formals, and the `)` after them.
 fn formals(alloc: Global, cursor: &mut Cursor<'_, '_>) -> Result<Items<Formal>, NoSource>
-    ensures read { IfOk result (λ formals. upcoming cursor.old ≡ formals_spelling formals ++ upcoming cursor.new) }
+    ensures read { IfOk result (λ formals. upcoming cursor.old ≡ formals_spelling formals
+        ++ upcoming cursor.new) }
     ensures outputs { IfOk result AreOutputs }
     ensures none { IfErr result (λ fault. OnNotBuilt fault (NoFormals (upcoming cursor.old))) }
 {
@@ -238,7 +243,8 @@ enum Start {
 
 /// Reads the word with which a statement begins.
 fn first_word(cursor: &mut Cursor<'_, '_>) -> Option<Start>
-    ensures { MatchOption result (NoStart (upcoming cursor.old)) (λ start. upcoming cursor.old ≡ word_of start ∷ upcoming cursor.new) }
+    ensures { MatchOption result (NoStart (upcoming cursor.old)) (λ start. upcoming cursor.old
+        ≡ word_of start ∷ upcoming cursor.new) }
 {
     if cursor.accept("nothing") {
         Some(Start::Nothing)

@@ -1,9 +1,9 @@
 //! What a statement does in the step in which it is started.
 
-ghost use Rattle.std.specs.Prelude.{◌≡◌, ℕ, true, false, ◌++◌, ◌&&◌, List, map, OnOk, IfOk};
-ghost use Rattle.qz_driver.specs.Verilog.{Nets, bit_at};
-ghost use Rattle.qz_driver.specs.WireTable.{Reads, Extends, Has};
-ghost use Rattle.qz_driver.specs.Driven.{writes_as_bits, DeclaresWrites};
+ghost use Rattle.std.specs.Prelude.{ℕ, true, false, map, OnOk, IfOk};
+ghost use Rattle.qz_driver.specs.Verilog.{bit_at};
+ghost use Rattle.qz_driver.specs.WireTable.{Extends, Has, Carries};
+ghost use Rattle.qz_driver.specs.Driven.{DeclaresWrites, AppendsWrites};
 ghost use Rattle.qz_driver.specs.Mirror.{mirror_of, driven, start_all, all_at_once};
 
 use crate::driven::DrivenWrite;
@@ -22,9 +22,9 @@ pub fn surface(
     start: Ref,
 ) -> Result<Ref, AllocError>
     ensures extends { OnOk result (Extends wires.old wires.new) }
-    ensures ends { IfOk result (λ ends. (nets : Nets) → Reads nets wires.new → bit_at nets ends ≡ (mirror_of s.now).at_once) }
-    ensures means { OnOk result ((nets : Nets) → Reads nets wires.new →
-        writes_as_bits nets writes.new.items ≡ writes_as_bits nets writes.old.items ++ (mirror_of s.now).start (bit_at nets start)) }
+    ensures ends { IfOk result (λ ends. Carries wires.new ends (λ nets. (mirror_of s.now).at_once)) }
+    ensures means { OnOk result (AppendsWrites wires.new writes.old.items writes.new.items
+        (λ nets. (mirror_of s.now).start (bit_at nets start))) }
     ensures declares { IfOk result (λ ends. (registers : ℕ) → Has registers wires.old start →
         DeclaresWrites registers wires.old writes.old.items →
         DeclaresWrites registers wires.new writes.new.items × Has registers wires.new ends) }
@@ -47,9 +47,9 @@ fn surface_of_assignment(
     guard: Ref,
 ) -> Result<Ref, AllocError>
     ensures extends { OnOk result (Extends wires.old wires.new) }
-    ensures ends { IfOk result (λ ends. (nets : Nets) → Reads nets wires.new → bit_at nets ends ≡ true) }
-    ensures means { OnOk result ((nets : Nets) → Reads nets wires.new →
-        writes_as_bits nets writes.new.items ≡ writes_as_bits nets writes.old.items ++ driven target e.now (bit_at nets guard)) }
+    ensures ends { IfOk result (λ ends. Carries wires.new ends (λ nets. true)) }
+    ensures means { OnOk result (AppendsWrites wires.new writes.old.items writes.new.items
+        (λ nets. driven target e.now (bit_at nets guard))) }
     ensures declares { IfOk result (λ ends. (registers : ℕ) → Has registers wires.old guard →
         DeclaresWrites registers wires.old writes.old.items →
         DeclaresWrites registers wires.new writes.new.items × Has registers wires.new ends) }
@@ -68,9 +68,10 @@ fn assign(
     guard: Ref,
 ) -> Result<(), AllocError>
     ensures extends { OnOk result (Extends wires.old wires.new) }
-    ensures means { OnOk result ((nets : Nets) → Reads nets wires.new →
-        writes_as_bits nets writes.new.items ≡ writes_as_bits nets writes.old.items ++ driven target e.now (bit_at nets guard)) }
-    ensures declares { OnOk result ((registers : ℕ) → Has registers wires.old guard → DeclaresWrites registers wires.old writes.old.items →
+    ensures means { OnOk result (AppendsWrites wires.new writes.old.items writes.new.items
+        (λ nets. driven target e.now (bit_at nets guard))) }
+    ensures declares { OnOk result ((registers : ℕ) → Has registers wires.old guard →
+        DeclaresWrites registers wires.old writes.old.items →
         DeclaresWrites registers wires.new writes.new.items) }
 {
     if let Var::Formal(output) = target {
@@ -93,9 +94,9 @@ fn surface_of_loop(
     start: Ref,
 ) -> Result<Ref, AllocError>
     ensures extends { OnOk result (Extends wires.old wires.new) }
-    ensures ends { IfOk result (λ ends. (nets : Nets) → Reads nets wires.new → bit_at nets ends ≡ false) }
-    ensures means { OnOk result ((nets : Nets) → Reads nets wires.new →
-        writes_as_bits nets writes.new.items ≡ writes_as_bits nets writes.old.items ++ (mirror_of body.now).start (bit_at nets start)) }
+    ensures ends { IfOk result (λ ends. Carries wires.new ends (λ nets. false)) }
+    ensures means { OnOk result (AppendsWrites wires.new writes.old.items writes.new.items
+        (λ nets. (mirror_of body.now).start (bit_at nets start))) }
     ensures declares { IfOk result (λ ends. (registers : ℕ) → Has registers wires.old start →
         DeclaresWrites registers wires.old writes.old.items →
         DeclaresWrites registers wires.new writes.new.items × Has registers wires.new ends) }
@@ -114,9 +115,10 @@ fn surface_of_all(
     start: Ref,
 ) -> Result<Ref, AllocError>
     ensures extends { OnOk result (Extends wires.old wires.new) }
-    ensures ends { IfOk result (λ ends. (nets : Nets) → Reads nets wires.new → bit_at nets ends ≡ all_at_once (map mirror_of parts.now)) }
-    ensures means { OnOk result ((nets : Nets) → Reads nets wires.new →
-        writes_as_bits nets writes.new.items ≡ writes_as_bits nets writes.old.items ++ start_all (map mirror_of parts.now) (bit_at nets start)) }
+    ensures ends { IfOk result (λ ends. Carries wires.new ends
+        (λ nets. all_at_once (map mirror_of parts.now))) }
+    ensures means { OnOk result (AppendsWrites wires.new writes.old.items writes.new.items
+        (λ nets. start_all (map mirror_of parts.now) (bit_at nets start))) }
     ensures declares { IfOk result (λ ends. (registers : ℕ) → Has registers wires.old start →
         DeclaresWrites registers wires.old writes.old.items →
         DeclaresWrites registers wires.new writes.new.items × Has registers wires.new ends) }

@@ -36,7 +36,8 @@ impl Counts {
     /// The next place's number.
     fn place(&mut self) -> Option<u32>
         ensures { MatchOption result (2 ^ 32 ≤ self.old.places + 1)
-            (λ place. (place ≡ self.old.places) × (self.new.places ≡ self.old.places + 1) × (self.new.loops ≡ self.old.loops)) }
+            (λ place. (place ≡ self.old.places) × (self.new.places ≡ self.old.places + 1) × (self.new.loops
+            ≡ self.old.loops)) }
     {
         let place = self.places;
         self.places = place.checked_add(1)?;
@@ -46,7 +47,8 @@ impl Counts {
     /// The next loop's number.
     fn turn(&mut self) -> Option<u32>
         ensures { MatchOption result (2 ^ 32 ≤ self.old.loops + 1)
-            (λ turn. (turn ≡ self.old.loops) × (self.new.loops ≡ self.old.loops + 1) × (self.new.places ≡ self.old.places)) }
+            (λ turn. (turn ≡ self.old.loops) × (self.new.loops ≡ self.old.loops + 1) × (self.new.places
+            ≡ self.old.places)) }
     {
         let turn = self.loops;
         self.loops = turn.checked_add(1)?;
@@ -98,7 +100,8 @@ fn body(
     counts: &mut Counts,
     parts: &[SourceStmt],
 ) -> Result<Items<Stmt>, NoSource>
-    ensures core { IfOk result (λ stmts. AreCores (names_of formals.now) parts.now counts.old stmts counts.new) }
+    ensures core { IfOk result
+        (λ stmts. AreCores (names_of formals.now) parts.now counts.old stmts counts.new) }
     ensures apart { OnOk result (IsTrue (differ (names_of formals.now))) }
     ensures none { IfErr result (λ fault. OnNotBuilt fault
         (IsTrue (differ (names_of formals.now)) → NoCores (names_of formals.now) parts.now counts.old)) }
@@ -130,7 +133,15 @@ fn module_of(
     loops: u32,
     body: Stmt,
 ) -> Module
-    ensures { result ≡ record { name = source.name; formals = source.formals; decls = []; labels = labels; loops = loops; calls = 0; body = body } }
+    ensures { result ≡ record {
+      name = source.name;
+      formals = source.formals;
+      decls = [];
+      labels = labels;
+      loops = loops;
+      calls = 0;
+      body = body;
+    } }
 {
     Module {
         name: source.name,
@@ -214,7 +225,8 @@ fn statement(
 /// `emit x`, which is `x = true`.
 fn emit(numbers: &FormalNumbers, name: &Name) -> Option<Stmt>
     ensures { MatchOption result (length numbers.now ≤ 256 → number_of numbers.now name.now ≡ None)
-        (λ s. (number : ℕ) × (number_of numbers.now name.now ≡ Some number) × (s ≡ stmt.Assign (variable.Formal number) (Lit yes))) }
+        (λ s. (number : ℕ) × (number_of numbers.now name.now ≡ Some number) × (s
+        ≡ stmt.Assign (variable.Formal number) (Lit yes))) }
 {
     let number = numbers.number_of(name)?;
     match u32::try_from(number) {

@@ -3,7 +3,7 @@
 ghost use Rattle.std.specs.Prelude.{◌≡◌, ℕ, ◌&&◌, ◌||◌, not, [], length, IfOk, IfSome};
 ghost use Rattle.qz_driver.specs.declared.verilog.Rhs.{Rhs};
 ghost use Rattle.qz_driver.specs.Verilog.{Nets, bit_at, right_side, ReadsDeclared};
-ghost use Rattle.qz_driver.specs.WireTable.{rights, Reads, Extends, Has, IsSound, Declares};
+ghost use Rattle.qz_driver.specs.WireTable.{rights, Reads, Extends, Has, IsSound, Declares, Carries};
 
 use crate::verilog::{Ref, Rhs, is_true};
 use indexmap::IndexSet;
@@ -35,8 +35,7 @@ impl Wires {
     /// The wire with this right side.
     fn add(&mut self, rhs: Rhs) -> Result<Ref, AllocError>
         ensures extends { Extends self.old self.new }
-        ensures means { IfOk result (λ net. (nets : Nets) → Reads nets self.new →
-            bit_at nets net ≡ right_side nets rhs) }
+        ensures means { IfOk result (λ net. Carries self.new net (λ nets. right_side nets rhs)) }
         ensures declares { IfOk result (λ net. (registers : ℕ) → IsSound registers self.old →
             ReadsDeclared registers (length (rights self.old)) rhs → Declares registers self.new net) }
     {
@@ -57,16 +56,18 @@ impl Wires {
 
     pub fn constant(&mut self, value: bool) -> Result<Ref, AllocError>
         ensures extends { Extends self.old self.new }
-        ensures means { IfOk result (λ net. (nets : Nets) → Reads nets self.new → bit_at nets net ≡ value) }
-        ensures declares { IfOk result (λ net. (registers : ℕ) → IsSound registers self.old → Declares registers self.new net) }
+        ensures means { IfOk result (λ net. Carries self.new net (λ nets. value)) }
+        ensures declares { IfOk result (λ net. (registers : ℕ) → IsSound registers self.old →
+            Declares registers self.new net) }
     {
         self.add(Rhs::Const(Value::truth(value)))
     }
 
     pub fn not(&mut self, a: Ref) -> Result<Ref, AllocError>
         ensures extends { Extends self.old self.new }
-        ensures means { IfOk result (λ net. (nets : Nets) → Reads nets self.new → bit_at nets net ≡ not (bit_at nets a)) }
-        ensures declares { IfOk result (λ net. (registers : ℕ) → IsSound registers self.old → Has registers self.old a →
+        ensures means { IfOk result (λ net. Carries self.new net (λ nets. not (bit_at nets a))) }
+        ensures declares { IfOk result (λ net. (registers : ℕ) → IsSound registers self.old →
+            Has registers self.old a →
             Declares registers self.new net) }
     {
         match self.constant_of(a) {
@@ -80,9 +81,9 @@ impl Wires {
 
     pub fn and(&mut self, a: Ref, b: Ref) -> Result<Ref, AllocError>
         ensures extends { Extends self.old self.new }
-        ensures means { IfOk result (λ net. (nets : Nets) → Reads nets self.new →
-            bit_at nets net ≡ (bit_at nets a && bit_at nets b)) }
-        ensures declares { IfOk result (λ net. (registers : ℕ) → IsSound registers self.old → Has registers self.old a →
+        ensures means { IfOk result (λ net. Carries self.new net (λ nets. bit_at nets a && bit_at nets b)) }
+        ensures declares { IfOk result (λ net. (registers : ℕ) → IsSound registers self.old →
+            Has registers self.old a →
             Has registers self.old b → Declares registers self.new net) }
     {
         match self.constant_of(a) {
@@ -98,9 +99,9 @@ impl Wires {
 
     pub fn or(&mut self, a: Ref, b: Ref) -> Result<Ref, AllocError>
         ensures extends { Extends self.old self.new }
-        ensures means { IfOk result (λ net. (nets : Nets) → Reads nets self.new →
-            bit_at nets net ≡ (bit_at nets a || bit_at nets b)) }
-        ensures declares { IfOk result (λ net. (registers : ℕ) → IsSound registers self.old → Has registers self.old a →
+        ensures means { IfOk result (λ net. Carries self.new net (λ nets. bit_at nets a || bit_at nets b)) }
+        ensures declares { IfOk result (λ net. (registers : ℕ) → IsSound registers self.old →
+            Has registers self.old a →
             Has registers self.old b → Declares registers self.new net) }
     {
         match self.constant_of(a) {
