@@ -31,10 +31,10 @@ same() {
 
 usage='usage: quartzc MODE NAME FILE...'
 cp "$here"/*.qz .
-expect 0 '' build T T.qz
-same T.v "$here/T.v"
-expect 0 '' build Blink Blink.qz
-same Blink.v "$here/Blink.v"
+for name in T Blink Phases; do
+    expect 0 '' build "$name" "$name.qz"
+    same "$name.v" "$here/$name.v"
+done
 expect 1 'no.qz: absent' build T no.qz
 expect 1 'T.qz: not built yet' build U T.qz
 printf 'module T(event !o){ loop { emit o; } }' >loop.qz
