@@ -53,7 +53,7 @@ all_from : {A : Type 0} (P : A → Type 0) → ((x : A) → P x) → (xs : List 
 all_from P h [] = tt
 all_from P h (x ∷ xs) = (h x, all_from P h xs)
 
-all-map : {A B : Type 0} (P : B → Type 0) (f : A → B) (xs : List A) → AllByRecursion (λ x. P (f x)) xs → AllByRecursion P (map f xs)
+pub all-map : {A B : Type 0} (P : B → Type 0) (f : A → B) (xs : List A) → AllByRecursion (λ x. P (f x)) xs → AllByRecursion P (map f xs)
 all-map P f [] h = tt
 all-map P f (x ∷ xs) h = (h.0, all-map P f xs h.1)
 
@@ -99,7 +99,7 @@ outputs_of (formal ∷ formals) h n =
     let parts = and_parts _ _ h in
     rw ((output_parts formal parts.0).1) (ap (λ ns. n ∷ ns) (outputs_of formals parts.1 (n + 1)))
 
-inputs_of : (formals : List Formal) → AreOutputs formals → (n : ℕ) → numbers_in dir.In n formals ≡ []
+pub inputs_of : (formals : List Formal) → AreOutputs formals → (n : ℕ) → numbers_in dir.In n formals ≡ []
 inputs_of [] h n = refl
 inputs_of (formal ∷ formals) h n =
     let parts = and_parts _ _ h in rw ((output_parts formal parts.0).1) (inputs_of formals parts.1 (n + 1))
@@ -117,10 +117,10 @@ type_of_output (formal ∷ formals) h zero = (output_parts formal (and_parts _ _
 type_of_output (formal ∷ formals) h (suc n) = type_of_output formals (and_parts _ _ h).1 n
 
 -- an output with a store that has just come into being
-abbrev output_met : ℕ → Met
+abbrev pub output_met : ℕ → Met
 output_met n = record { instance = formal_instance n; store = new_store ty.Bool }
 
-abbrev new_stores : List ℕ → List Store
+abbrev pub new_stores : List ℕ → List Store
 new_stores outputs = map (λ n. new_store ty.Bool) outputs
 
 met_outputs_new : (outputs : List ℕ) → met_outputs outputs (new_stores outputs) ≡ map output_met outputs
@@ -149,10 +149,10 @@ module _ (m : Module) (first : IsFirst m) where
   abbrev outputs : List ℕ
   outputs = formals_of dir.Out m
 
-  class_is : (n : ℕ) → program.class_of (var.Formal n) ≡ Event
+  pub class_is : (n : ℕ) → program.class_of (var.Formal n) ≡ Event
   class_is n = class_of_output m.formals first.formals n
 
-  type_is : (n : ℕ) → program.type_of (var.Formal n) ≡ ty.Bool
+  pub type_is : (n : ℕ) → program.type_of (var.Formal n) ≡ ty.Bool
   type_is n = type_of_output m.formals first.formals n
 
   started : (scene other : Scene) → Started scene other m.body
@@ -227,13 +227,13 @@ module _ (m : Module) (first : IsFirst m) where
     place_is = (h, away);
   }
 
-  met_is : (c : Configuration) (state : BitState) → Follows c state → (env : Environment) → step_met program c env ≡ map output_met outputs
+  pub met_is : (c : Configuration) (state : BitState) → Follows c state → (env : Environment) → step_met program c env ≡ map output_met outputs
   met_is c state h env =
       ap₂ (λ xs ys. xs ++ ys) (ap (met_outputs outputs) h.outputs_are ∙ met_outputs_new outputs)
       (walks_as (scene_of program env) c.place state h.place_is).met
       ∙ append-nil (map output_met outputs)
 
-  settles : (c : Configuration) (state : BitState) → Follows c state → (env : Environment) (n : ℕ)
+  pub settles : (c : Configuration) (state : BitState) → Follows c state → (env : Environment) (n : ℕ)
       → settles_now program (step_writes program c env) (output_met n) ≡ Known (truth_of (is_driven (driven_bits bits state) n))
   settles c state h env n =
       ap₂ (λ (class : Class) (type : Ty). settled class type (new_store ty.Bool) (verdict (formal_instance n) false (step_writes program c env))) (class_is n) (type_is n)
@@ -241,7 +241,7 @@ module _ (m : Module) (first : IsFirst m) where
       (verdict_driven (step_writes program c env) (driven_bits bits state) (walks_as (scene_of program env) c.place state h.place_is).writes n)
       ∙ settled_driven (is_driven (driven_bits bits state) n)
 
-  undelayed : (c : Configuration) (state : BitState) → Follows c state → (env : Environment) (n : ℕ)
+  pub undelayed : (c : Configuration) (state : BitState) → Follows c state → (env : Environment) (n : ℕ)
       → settles_later (step_writes program c env) (output_met n) ≡ later.Absent
   undelayed c state h env n =
       ap settled_later (verdict_undelayed (step_writes program c env) (driven_bits bits state) (walks_as (scene_of program env) c.place state h.place_is).writes n)

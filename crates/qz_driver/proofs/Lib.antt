@@ -13,6 +13,7 @@ pub mod FirstResuming
 pub mod SameWalks
 pub mod BitVerdicts
 pub mod FirstSteps
+pub mod AlwaysDefinite
 pub mod SettleLemmas
 pub mod ClockRuns
 pub mod Driving

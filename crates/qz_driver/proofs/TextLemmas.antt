@@ -13,6 +13,7 @@ use Rattle.qz_driver.specs.Grammar.{FitsModule}
 use Rattle.qz_driver.specs.CoreTree.{IsAsked, core_module}
 use Rattle.qz_driver.specs.Texts.{IsTextOfProgram}
 use Rattle.qz_driver.proofs.FirstSources.{first_source}
+use Rattle.qz_driver.proofs.AlwaysDefinite.{always_definite}
 use Rattle.qz_driver.proofs.DoingPrograms.{implementation_does_program}
 
 -- what typing gives is a module of the first language
@@ -25,6 +26,7 @@ first_of_typed name source (Err fault) fits asked core = tt
 pub text_of_implementation : (program : Module) (v : VModule) (r : Result (String Global) AllocError) → IsFirst program → Implements v program
     → IfOk r (λ text. string_bytes text ≡ text_of v) → IfOk r (λ text. IsTextOfProgram program (string_bytes text))
 text_of_implementation program v (Ok text) first implements written = record {
+  definite = always_definite program first;
   circuit = v;
   valid = implements.valid first;
   does = implementation_does_program v program first (implements.valid first) implements;

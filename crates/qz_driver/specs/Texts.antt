@@ -3,14 +3,17 @@ use Rattle.std.specs.Prelude.{ℕ, ◌≡◌, List, Option, Some}
 use Rattle.qz_io.specs.declared.answers.Got.{Got}
 use Rattle.qz_io.specs.declared.answers.Got.TheVariants as got
 use Rattle.qz_syntax.specs.declared.modules.Module.{Module}
+use Rattle.qz_meaning.specs.Programs.{program_of}
 use Rattle.qz_driver.specs.declared.verilog.VModule.{VModule}
 use Rattle.qz_driver.specs.Verdicts.{IsModuleOf}
 use Rattle.qz_driver.specs.Verilog.{IsValid}
 use Rattle.qz_driver.specs.VerilogText.{text_of}
+use Rattle.qz_driver.specs.Definite.{IsAlwaysDefinite}
 use Rattle.qz_driver.specs.Does.{DoesProgram}
 
--- the text of a valid Verilog module that does the program
+-- the text of a valid Verilog module that does the program, which is definite at every permitted valuation
 pub record IsTextOfProgram (program : Module) (text : List ℕ) : Type 0 where
+  pub definite : IsAlwaysDefinite (program_of program)
   pub circuit : VModule
   pub valid : IsValid circuit
   pub does : DoesProgram circuit program

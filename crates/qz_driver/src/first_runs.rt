@@ -15,7 +15,9 @@ ghost use Rattle.qz_driver.specs.FirstResumes.{AreDifferent, IsControl, ResumesA
 ghost use Rattle.qz_driver.specs.declared.verilog.VModule.{VModule};
 ghost use Rattle.qz_driver.specs.Verilog.{IsValid};
 ghost use Rattle.qz_driver.specs.Implements.{Implements};
+ghost use Rattle.qz_meaning.specs.Programs.{program_of};
 ghost use Rattle.qz_driver.specs.Does.{DoesProgram};
+ghost use Rattle.qz_driver.specs.Definite.{IsAlwaysDefinite};
 
 /// A start of a statement of the first language is as its bits say.
 pub fn starts_as_its_bits()
@@ -36,6 +38,11 @@ pub fn resumes_as_its_bits()
 pub fn is_still_where_control_is_away()
     ensures { (outputs : ℕ) (s : Stmt) → IsTrue (is_first outputs s) → AreDifferent (places_of s)
         → (control : Control) → IsControl control (places_of s) [] → IsStill (mirror_of s) control }
+{}
+
+/// A program of the first language is definite at every permitted valuation.
+pub fn first_programs_are_definite()
+    ensures { (m : Module) → IsFirst m → IsAlwaysDefinite (program_of m) }
 {}
 
 /// A valid Verilog module that implements a module of the first language does its program.

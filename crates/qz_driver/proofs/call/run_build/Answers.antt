@@ -27,7 +27,7 @@ returns-in-Ok-verilog_of-clause-write_fault g c is =
       there = there_of asked old c.in-Ok.got told (made_there asked.name c.in-Ok.got made);
       built = built;
       rose = subst Q is answers;
-      nothing_written = refl;
+      nothing_written = refl {a = g.O.Sink.written c.args.out.now};
       others = λ other apart. c.put.ensures.others other apart ∙ ap (λ held. held_under held other) c.in-Ok.ensures.held_stays;
     })
 
@@ -119,6 +119,6 @@ returns-in-Ok-verilog_of-clause-done g c is =
       built = built_of asked old c.in-Ok.got told made;
       does = does_of asked old c.in-Ok.got told (string_bytes c.in-Ok-verilog_of.text) (held_under (g.F.Files.held c.put.new.files) (verilog_file asked.name))
           (λ known. c.put.ensures.put is (subst IsSome (sym stays) known) ∙ ap (λ bytes. Some bytes) c.as_bytes.ensures.value) c.in-Ok-verilog_of.ensures.does;
-      nothing_written = refl;
+      nothing_written = refl {a = g.O.Sink.written c.args.out.now};
       others = λ other apart. c.put.ensures.others other apart ∙ ap (λ held. held_under held other) stays;
     }
