@@ -24,7 +24,8 @@ use Rattle.qz_driver.specs.declared.source.SourceStmt.{SourceStmt, map-SourceStm
 use Rattle.qz_driver.specs.declared.source.SourceStmt.TheVariants as source
 use Rattle.qz_driver.specs.declared.source.SourceStmt.TheOpen.{SourceStmt-F}
 use Rattle.qz_driver.specs.declared.source.SourceStmt.TheFolds.{ind-SourceStmt}
-use Rattle.qz_driver.specs.CoreTree.{Core, names_of, emits_among, core, node_core, cores, sequence, differ, core_module, IsAsked}
+use Rattle.qz_driver.specs.CoreTree.{Core, emits_among, core, node_core, cores, sequence, core_module, IsAsked}
+use Rattle.qz_syntax.specs.DoubleNames.{formal_names, are_distinct}
 use Rattle.qz_driver.specs.Typing.{IsCore, AreCores, NoCore, NoCores}
 use Rattle.qz_driver.proofs.GrammarLemmas.{fold-Nothing, fold-Pause, fold-Emit, fold-Loop, fold-Block}
 
@@ -192,35 +193,35 @@ module _ (names : List (List ℕ)) where
 
 -- a module that isn't too large has few places and loops
 few_counts : (source : SourceModule) → size_of (core_module source) ≤ 100000
-    → ((cores (names_of source.formals) source.body 0 0).places < 2 ^ 32) × ((cores (names_of source.formals) source.body 0 0).loops < 2 ^ 32)
+    → ((cores (formal_names source.formals) source.body 0 0).places < 2 ^ 32) × ((cores (formal_names source.formals) source.body 0 0).loops < 2 ^ 32)
 few_counts source small =
-    let all = cores (names_of source.formals) source.body 0 0 in
-    let counted = sized_all (names_of source.formals) source.body 0 0 0 in
+    let all = cores (formal_names source.formals) source.body 0 0 in
+    let counted = sized_all (formal_names source.formals) source.body 0 0 0 in
     let whole = units-sequence all.stmts 0 in
     let units : units_inside (sequence all.stmts) 0 ≤ 100000 = omega (arith, small) in
     (omega (arith, counted, whole, units), omega (arith, counted, whole, units))
 
-pub not_asked : (name : List ℕ) (source : SourceModule) (old : Counts) → old.places ≡ 0 → old.loops ≡ 0 → (IsTrue (differ (names_of source.formals)) → NoCores (names_of source.formals) source.body old) → IsAsked name source → ⊥
+pub not_asked : (name : List ℕ) (source : SourceModule) (old : Counts) → old.places ≡ 0 → old.loops ≡ 0 → (IsTrue (are_distinct (formal_names source.formals)) → NoCores (formal_names source.formals) source.body old) → IsAsked name source → ⊥
 not_asked name source old no_places no_loops none asked =
     let few = few_counts source asked.small in
     let count = length-map source.formals (λ (formal : Formal). formal.name) in
     (none asked.differ).none (omega (arith, count, asked.few)) asked.emits (rw (no_places, no_loops) few.0) (rw (no_places, no_loops) few.1)
 
 pub is_core_module : (source : SourceModule) (stmts : List Stmt) (old new : Counts) (labels : List (Option (List ℕ))) → old.places ≡ 0 → old.loops ≡ 0
-    → AreCores (names_of source.formals) source.body old stmts new → labels ≡ replicate new.places None
+    → AreCores (formal_names source.formals) source.body old stmts new → labels ≡ replicate new.places None
     → let typed : Module = record { name = source.name; formals = source.formals; decls = []; labels = labels; loops = new.loops; calls = 0; body = sequence stmts } in typed ≡ core_module source
 is_core_module source stmts old new labels no_places no_loops are unlabeled =
-    let places : new.places ≡ (cores (names_of source.formals) source.body 0 0).places = are.places ∙ ap₂ (λ p l. (cores (names_of source.formals) source.body p l).places) no_places no_loops in
-    let loops : new.loops ≡ (cores (names_of source.formals) source.body 0 0).loops = are.loops ∙ ap₂ (λ p l. (cores (names_of source.formals) source.body p l).loops) no_places no_loops in
-    let body : stmts ≡ (cores (names_of source.formals) source.body 0 0).stmts = are.stmts ∙ ap₂ (λ p l. (cores (names_of source.formals) source.body p l).stmts) no_places no_loops in
+    let places : new.places ≡ (cores (formal_names source.formals) source.body 0 0).places = are.places ∙ ap₂ (λ p l. (cores (formal_names source.formals) source.body p l).places) no_places no_loops in
+    let loops : new.loops ≡ (cores (formal_names source.formals) source.body 0 0).loops = are.loops ∙ ap₂ (λ p l. (cores (formal_names source.formals) source.body p l).loops) no_places no_loops in
+    let body : stmts ≡ (cores (formal_names source.formals) source.body 0 0).stmts = are.stmts ∙ ap₂ (λ p l. (cores (formal_names source.formals) source.body p l).stmts) no_places no_loops in
     rw (unlabeled, places, loops, body) refl
 
 module _ (name : List ℕ) (source : SourceModule) (typed : Module) (is : typed ≡ core_module source) (r : Result Module NoSource) where
   pub small_is_core : IfOk r (λ m. m ≡ typed) → IfOk r (λ m. m ≡ core_module source)
   small_is_core same = IfOk-weaker r (λ m. m ≡ typed) (λ m. m ≡ core_module source) (λ m e. e ∙ is) same
 
-  pub small_is_asked : source.name ≡ chars name → length source.formals ≤ 256 → IsTrue (differ (names_of source.formals))
-      → IsTrue (list_all (λ emits. emits) (map (emits_among (names_of source.formals)) source.body))
+  pub small_is_asked : source.name ≡ chars name → length source.formals ≤ 256 → IsTrue (are_distinct (formal_names source.formals))
+      → IsTrue (list_all (λ emits. emits) (map (emits_among (formal_names source.formals)) source.body))
       → IfOk r (λ m. size_of m ≤ 100000) → IfOk r (λ m. m ≡ typed) → IfOk r (λ m. IsAsked name source)
   small_is_asked named few apart emits small same =
       let P : Module → Type 0 = λ m. size_of m ≤ 100000 in

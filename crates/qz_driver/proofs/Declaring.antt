@@ -9,7 +9,7 @@ use Rattle.qz_driver.specs.declared.verilog.Ref.{Ref}
 use Rattle.qz_driver.specs.declared.verilog.Ref.TheVariants as net
 use Rattle.qz_driver.specs.declared.verilog.Rhs.{Rhs}
 use Rattle.qz_driver.specs.declared.wires.Wires.{Wires}
-use Rattle.qz_driver.specs.Verilog.{ReadsDeclared, IsDeclared}
+use Rattle.qz_driver.specs.Verilog.{IsRightSide, IsDeclared}
 use Rattle.qz_driver.specs.WireTable.{rights, Has, IsSound, Extends}
 use Rattle.qz_driver.specs.declared.driven.DrivenWrite.{DrivenWrite}
 use Rattle.qz_driver.specs.declared.driven.DrivenPlace.{DrivenPlace}
@@ -21,9 +21,9 @@ still_has registers old new (net.Reg k) grows has = record { declared = has.decl
 still_has registers old new (net.Wire k) grows has = record { declared = let a = has.declared in let b = grows.longer in omega arith }
 
 abbrev pub AreSound : ℕ → List Rhs → Type 0
-AreSound registers rights = (number : ℕ) (right : Rhs) → slice_get rights number ≡ Some right → ReadsDeclared registers number right
+AreSound registers rights = (number : ℕ) (right : Rhs) → slice_get rights number ≡ Some right → IsRightSide registers number right
 
-sound_push : (registers : ℕ) (rights : List Rhs) (right : Rhs) → AreSound registers rights → ReadsDeclared registers (length rights) right
+sound_push : (registers : ℕ) (rights : List Rhs) (right : Rhs) → AreSound registers rights → IsRightSide registers (length rights) right
     → AreSound registers (rights ++ right ∷ [])
 sound_push registers rights right sound reads = λ number other at. by number other at (split number (slice_get_within (rights ++ right ∷ []) number other at))
   where
@@ -31,7 +31,7 @@ sound_push registers rights right sound reads = λ number other at. by number ot
     split number within = let e = length-append rights (right ∷ []) in grind arith
 
     by : (number : ℕ) (other : Rhs) → slice_get (rights ++ right ∷ []) number ≡ Some other → (number < length rights) ⊎ (number ≡ length rights)
-        → ReadsDeclared registers number other
+        → IsRightSide registers number other
     by number other at (inl within) =
         sound number other
         (slice_get-get_or rights number right within
@@ -40,11 +40,11 @@ sound_push registers rights right sound reads = λ number other at. by number ot
         let same : right ≡ other =
         sym (get_or-append_seam rights right [] right) ∙ ap (λ k. get_or (rights ++ right ∷ []) k right) (sym here)
         ∙ get_or_from_slice_get (rights ++ right ∷ []) number other right at in
-        let P : ℕ → Type 0 = λ k. ReadsDeclared registers k right in
-        subst (λ (r : Rhs). ReadsDeclared registers number r) same (subst P (sym here) reads)
+        let P : ℕ → Type 0 = λ k. IsRightSide registers k right in
+        subst (λ (r : Rhs). IsRightSide registers number r) same (subst P (sym here) reads)
 
 pub sound_insert : (eq : Rhs → Rhs → Bool) (registers : ℕ) (rights : List Rhs) (right : Rhs) → AreSound registers rights
-    → ReadsDeclared registers (length rights) right → AreSound registers (insert_key eq rights right)
+    → IsRightSide registers (length rights) right → AreSound registers (insert_key eq rights right)
 sound_insert eq registers rights right sound reads = by (list_any (eq right) rights) refl
   where
     by : (b : Bool) → list_any (eq right) rights ≡ b → AreSound registers (insert_key eq rights right)

@@ -21,7 +21,8 @@ use Rattle.qz_driver.specs.declared.source.SourceStmt.TheFolds.{fold-roll-Source
 use Rattle.qz_driver.specs.Mirror.{bit_of, node_bit}
 use Rattle.qz_driver.specs.FirstLanguage.{is_first, node_is_first, is_event_output, IsFirst}
 use Rattle.qz_driver.specs.Grammar.{AreOutputs}
-use Rattle.qz_driver.specs.CoreTree.{names_of, number_of, node_emits, emits_among, Core, Cores, in_order, sequence, node_core, core, cores, core_module, IsAsked}
+use Rattle.qz_syntax.specs.DoubleNames.{formal_names}
+use Rattle.qz_driver.specs.CoreTree.{number_of, node_emits, emits_among, Core, Cores, in_order, sequence, node_core, core, cores, core_module, IsAsked}
 
 abbrev places_node : Stmt-F (List ℕ) → List ℕ
 places_node node = own_places node ++ concat (parts_of node)
@@ -179,12 +180,13 @@ outputs_are_events (formal ∷ formals) all =
 -- a source that is asked for describes a module of the first language
 pub first_source : (asked : List ℕ) (source : SourceModule) → IsAsked asked source → AreOutputs source.formals → IsFirst (core_module source)
 first_source asked source is outputs =
-    let c = cores (names_of source.formals) source.body 0 0 in
-    let all = cored_all (names_of source.formals) source.body 0 0 is.emits in
-    let one = cored_sequence (length (names_of source.formals)) 0 c.stmts c.places c.loops all in
+    let c = cores (formal_names source.formals) source.body 0 0 in
+    let all = cored_all (formal_names source.formals) source.body 0 0 is.emits in
+    let one = cored_sequence (length (formal_names source.formals)) 0 c.stmts c.places c.loops all in
     let count : one.count ≡ c.places = omega (arith, one.places) in
     record {
       formals = outputs_are_events source.formals outputs;
+      names = is.differ;
       body = subst (λ n. is_first n (sequence c.stmts) ≡ true) (length-map source.formals (λ (formal : Formal). formal.name)) one.first;
       places = one.are ∙ ap (λ n. range_with_len 0 n) (count ∙ sym (length-replicate c.places None));
     }

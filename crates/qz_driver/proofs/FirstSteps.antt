@@ -80,7 +80,7 @@ known_same (v ∷ vs) (w ∷ ws) h =
     ap₂ (λ (x : Value) (xs : List Value). x ∷ xs) one (known_same vs ws others)
 
 -- the parts of an output of the first language
-output_parts : (formal : Formal) → is_event_output formal ≡ true → (formal.class ≡ Event) × (formal.dir ≡ dir.Out) × (formal.ty ≡ ty.Bool)
+pub output_parts : (formal : Formal) → is_event_output formal ≡ true → (formal.class ≡ Event) × (formal.dir ≡ dir.Out) × (formal.ty ≡ ty.Bool)
 output_parts formal h = by_parts formal.class formal.dir formal.ty h
   where
     by_parts : (c : Class) (d : Dir) (t : Ty) → (elim c [ Event ↦ elim d [ dir.Out ↦ is_bool t | dir.In ↦ false ] | Mem ↦ false ]) ≡ true

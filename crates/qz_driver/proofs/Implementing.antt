@@ -1,8 +1,16 @@
 -- The clocks of a circuit that is made of nets that are the mirror's bits.
-use Rattle.std.proofs.Common.{refl, ◌+◌, zero, suc, ◌≤◌, nat_lt, ◌≡◌, ℕ, ◌<◌, Bool, true, false, not, List, [], ◌∷◌, ◌++◌, map, length, get_or, slice_get, Some, ap, sym, ◌∙◌, subst, arith, length-append}
+use Rattle.std.proofs.Common.{refl, ◌+◌, zero, suc, ◌≤◌, nat_lt, ◌≡◌, ℕ, ◌<◌, Bool, true, false, not, List, [], ◌∷◌, ◌++◌, map, length, get_or, slice_get, Some, replicate, IsTrue, ap, sym, ◌∙◌, subst, arith, length-append}
 use Rattle.std.specs.List.{range_with_len, list_all, AllByRecursion}
 use Rattle.std.proofs.lemmas.Bool.Decides.{nat_tests}
-use Rattle.qz_driver.specs.FirstLanguage.{IsFirst}
+use Rattle.std.proofs.lemmas.Bool.{and_parts}
+use Rattle.qz_values.specs.declared.Ty.TheVariants as ty
+use Rattle.qz_values.specs.Values.{no}
+use Rattle.qz_syntax.specs.declared.declarations.Formal.{Formal}
+use Rattle.qz_syntax.specs.declared.declarations.Port.{Port}
+use Rattle.qz_syntax.specs.DoubleNames.{formal_names, are_distinct}
+use Rattle.qz_driver.specs.Does.{port_of}
+use Rattle.qz_driver.specs.FirstLanguage.{is_event_output, IsFirst}
+use Rattle.qz_driver.proofs.FirstSteps.{output_parts}
 use Rattle.qz_driver.specs.RestsBelow.{rests_below}
 use Rattle.qz_driver.proofs.RestsLemmas.{rests_below_is}
 use Rattle.qz_driver.proofs.Declaring.{AreSound, all_declared}
@@ -22,7 +30,7 @@ use Rattle.qz_driver.specs.declared.wires.Wires.{Wires}
 use Rattle.qz_driver.specs.Driven.{writes_as_bits, rests_as_bits, AreDriven, DeclaresRow}
 use Rattle.qz_driver.specs.Implements.{step_writes, step_rests, IsStep}
 use Rattle.qz_driver.specs.Mirror.{Bits, Control, mirror_of, is_driven}
-use Rattle.qz_driver.specs.Verilog.{Nets, Settles, IsClock, IsDeclared, IsValid, bit_at}
+use Rattle.qz_driver.specs.Verilog.{Nets, Settles, IsClock, IsDeclared, IsBit, IsValid, bit_at}
 use Rattle.qz_driver.specs.WireTable.{rights, Reads}
 
 -- a row of driven nets, read as bits
@@ -100,11 +108,26 @@ first_rests_below m first =
     sym (rests_below_is registers m.body) ∙ ap (λ places. list_all (λ place. nat_lt place registers) places) first.places
     ∙ range_below (length m.labels)
 
+port_names : (formals : List Formal) → formal_names formals ≡ map (λ (output : Port). output.name) (map port_of formals)
+port_names [] = refl
+port_names (formal ∷ formals) = ap (λ names. formal.name ∷ names) (port_names formals)
+
+bool_ports : (formals : List Formal) → list_all (λ (formal : Formal). is_event_output formal) formals ≡ true
+    → AllByRecursion (λ (output : Port). output.ty ≡ ty.Bool) (map port_of formals)
+bool_ports [] h = tt
+bool_ports (formal ∷ formals) h =
+    let both = and_parts _ _ h in ((output_parts formal both.0).2, bool_ports formals both.1)
+
+all_bits : (places : ℕ) → AllByRecursion IsBit (replicate places no ++ no ∷ [])
+all_bits zero = ((false, refl), tt)
+all_bits (suc places) = ((false, refl), all_bits places)
+
 module _ (v : VModule) (table : Wires) (registers : ℕ) where
   -- a module whose table is sound, and whose nets are the table's
-  pub is_valid : v.wires ≡ rights table → length v.regs ≡ registers → length v.nexts ≡ registers → length v.outs ≡ length v.outputs
+  pub is_valid : (m : Module) → IsFirst m → v.outputs ≡ map port_of m.formals → v.regs ≡ replicate (length m.labels) no ++ no ∷ []
+      → v.wires ≡ rights table → length v.regs ≡ registers → length v.nexts ≡ registers → length v.outs ≡ length v.outputs
       → DeclaresRow registers table v.outs → DeclaresRow registers table v.nexts → IsValid v
-  is_valid wires regs clocked driven outs nexts =
+  is_valid m first ports begins wires regs clocked driven outs nexts =
       let P : List Rhs → Type 0 = λ rights. AreSound registers rights in
       let Q : ℕ → Type 0 = λ n. AreSound n v.wires in
       let count : length v.wires ≡ length (rights table) = ap length wires in
@@ -115,6 +138,10 @@ module _ (v : VModule) (table : Wires) (registers : ℕ) where
       let S : ℕ → Type 0 = λ n. R n (length v.wires) in
       subst S (sym regs) (subst (R registers) (sym count) here) in
       record {
+        names = subst (λ (some : List Port). IsTrue (are_distinct (map (λ (output : Port). output.name) some))) (sym ports)
+            (subst (λ names. IsTrue (are_distinct names)) (port_names m.formals) first.names);
+        bools = subst (λ (some : List Port). AllByRecursion (λ (output : Port). output.ty ≡ ty.Bool) some) (sym ports) (bool_ports m.formals first.formals);
+        begins = subst (λ regs. AllByRecursion IsBit regs) (sym begins) (all_bits (length m.labels));
         wires = subst Q (sym regs) (subst P (sym wires) outs.sound.each);
         outs = declared v.outs outs;
         nexts = declared v.nexts nexts;

@@ -9,7 +9,7 @@ use Rattle.qz_driver.specs.declared.verilog.Ref.TheVariants as net
 use Rattle.qz_driver.specs.declared.verilog.Rhs.{Rhs}
 use Rattle.qz_driver.specs.declared.verilog.Rhs.TheVariants as rhs
 use Rattle.qz_driver.specs.declared.verilog.VModule.{VModule}
-use Rattle.qz_driver.specs.Verilog.{Nets, bit_at, combined, right_side, Settles, IsDeclared, ReadsDeclared, IsValid}
+use Rattle.qz_driver.specs.Verilog.{Nets, bit_at, combined, right_side, Settles, IsDeclared, IsRightSide, IsValid}
 use Rattle.qz_driver.specs.VerilogLaws.{SettlesOnce}
 
 module _ (registers : ℕ → Bool) (count : ℕ) where
@@ -27,11 +27,11 @@ module _ (registers : ℕ → Bool) (count : ℕ) where
   same_combined : (o : Op2) (x y u v : Bool) → x ≡ u → y ≡ v → combined o x y ≡ combined o u v
   same_combined o x y u v h k = ap₂ (λ p q. combined o p q) h k
 
-  same_right : (limit : ℕ) (a b : ℕ → Bool) → Agree limit a b → (right : Rhs) → ReadsDeclared count limit right
+  same_right : (limit : ℕ) (a b : ℕ → Bool) → Agree limit a b → (right : Rhs) → IsRightSide count limit right
       → right_side (with_wires a) right ≡ right_side (with_wires b) right
   same_right limit a b h (rhs.Const value) d = refl
   same_right limit a b h (rhs.Invert x) d = ap not (same_bit limit a b h x d)
-  same_right limit a b h (rhs.Bin o x y) d = same_combined o _ _ _ _ (same_bit limit a b h x d.0) (same_bit limit a b h y d.1)
+  same_right limit a b h (rhs.Bin o x y) d = same_combined o _ _ _ _ (same_bit limit a b h x d.1) (same_bit limit a b h y d.2)
 
   -- the values of the wires, from those that are settled before
   abbrev wires_of : List Bool → ℕ → Bool
@@ -53,7 +53,7 @@ module _ (registers : ℕ → Bool) (count : ℕ) where
       kept rights (done ++ b ∷ []) number (omega arith) ∙ get_or_append_left done (b ∷ []) false number h
 
   abbrev AllRead : List Rhs → List Bool → Type 0
-  AllRead rights done = (k : ℕ) (right : Rhs) → slice_get rights k ≡ Some right → ReadsDeclared count (length done + k) right
+  AllRead rights done = (k : ℕ) (right : Rhs) → slice_get rights k ≡ Some right → IsRightSide count (length done + k) right
 
   settled_from : (rights : List Rhs) (done : List Bool) → AllRead rights done → (k : ℕ) (right : Rhs) → slice_get rights k ≡ Some right
       → wires_of (settle rights done) (length done + k) ≡ right_side (with_wires (wires_of (settle rights done))) right
@@ -74,13 +74,13 @@ module _ (registers : ℕ → Bool) (count : ℕ) where
       subst (λ n. wires_of (settle (own ∷ rights) done) n ≡ right_side (with_wires (wires_of (settle (own ∷ rights) done))) right) place
       (settled_from rights (done ++ b ∷ []) (λ j other is.
       let shift : length done + suc j ≡ length (done ++ b ∷ []) + j = omega arith in
-      subst (λ n. ReadsDeclared count n other) shift (reads (suc j) other is)) k right h)
+      subst (λ n. IsRightSide count n other) shift (reads (suc j) other is)) k right h)
 
-  module _ (rights : List Rhs) (reads : (number : ℕ) (right : Rhs) → slice_get rights number ≡ Some right → ReadsDeclared count number right) where
+  module _ (rights : List Rhs) (reads : (number : ℕ) (right : Rhs) → slice_get rights number ≡ Some right → IsRightSide count number right) where
     pub settled_whole : Settles rights (with_wires (wires_of (settle rights [])))
     settled_whole number right h =
         subst (λ n. wires_of (settle rights []) n ≡ right_side (with_wires (wires_of (settle rights []))) right) (zero-add number)
-        (settled_from rights [] (λ k other is. subst (λ n. ReadsDeclared count n other) (sym (zero-add k)) (reads k other is)) number right h)
+        (settled_from rights [] (λ k other is. subst (λ n. IsRightSide count n other) (sym (zero-add k)) (reads k other is)) number right h)
 
     pub settled_alike : (a b : ℕ → Bool) → Settles rights (with_wires a) → Settles rights (with_wires b) → (limit number : ℕ)
         → number < limit → number < length rights → a number ≡ b number

@@ -1,23 +1,19 @@
 -- The core tree of a source: names become numbers, lists become sequences, and places and loops are numbered.
-use Rattle.std.specs.Prelude.{ℕ, ◌≡◌, ◌+◌, ◌≤◌, Bool, true, ◌&&◌, not, List, [], ◌∷◌, length, map, position, replicate, Option, None, is_some, unwrap_or, IsTrue, bytes_eq}
-use Rattle.std.specs.List.{list_all, list_any}
+use Rattle.std.specs.Prelude.{ℕ, ◌≡◌, ◌+◌, ◌≤◌, Bool, true, List, [], ◌∷◌, length, map, position, replicate, Option, None, is_some, unwrap_or, IsTrue, bytes_eq}
+use Rattle.std.specs.List.{list_all}
 use Rattle.std.specs.Str.{chars}
 use Rattle.qz_values.specs.Values.{yes}
-use Rattle.qz_syntax.specs.declared.declarations.Formal.{Formal}
 use Rattle.qz_syntax.specs.declared.expressions.Expr.TheVariants.{Lit}
 use Rattle.qz_syntax.specs.declared.expressions.Var.TheVariants as variable
 use Rattle.qz_syntax.specs.declared.statements.Stmt.{Stmt}
 use Rattle.qz_syntax.specs.declared.statements.Stmt.TheVariants as stmt
 use Rattle.qz_syntax.specs.declared.modules.Module.{Module}
 use Rattle.qz_syntax.specs.Sizes.{size_of}
+use Rattle.qz_syntax.specs.DoubleNames.{formal_names, are_distinct}
 use Rattle.qz_driver.specs.declared.source.SourceModule.{SourceModule}
 use Rattle.qz_driver.specs.declared.source.SourceStmt.{SourceStmt}
 use Rattle.qz_driver.specs.declared.source.SourceStmt.TheOpen.{SourceStmt-F}
 use Rattle.qz_driver.specs.declared.source.SourceStmt.TheFolds.{fold-SourceStmt}
-
--- the names of formals, in their order
-abbrev pub names_of : List Formal → List (List ℕ)
-names_of formals = map (λ (formal : Formal). formal.name) formals
 
 -- the number of a name among these
 abbrev pub number_of : List (List ℕ) → List ℕ → Option ℕ
@@ -85,7 +81,7 @@ cores names parts = in_order (map (core names) parts)
 -- the module that a source describes
 abbrev pub core_module : SourceModule → Module
 core_module source =
-    let body = cores (names_of source.formals) source.body 0 0 in
+    let body = cores (formal_names source.formals) source.body 0 0 in
     record {
       name = source.name;
       formals = source.formals;
@@ -96,16 +92,11 @@ core_module source =
       body = sequence body.stmts;
     }
 
--- whether each name stands once
-abbrev pub differ : List (List ℕ) → Bool
-differ [] = true
-differ (name ∷ names) = not (list_any (bytes_eq name) names) && differ names
-
 -- The source has the name that was asked for, at most 256 formals whose names differ, what it emits are
 -- formals, and its size is at most 100,000.
 pub record IsAsked (name : List ℕ) (source : SourceModule) : Type 0 where
   pub named : source.name ≡ chars name
   pub few : length source.formals ≤ 256
-  pub differ : IsTrue (differ (names_of source.formals))
-  pub emits : IsTrue (list_all (λ emits. emits) (map (emits_among (names_of source.formals)) source.body))
+  pub differ : IsTrue (are_distinct (formal_names source.formals))
+  pub emits : IsTrue (list_all (λ emits. emits) (map (emits_among (formal_names source.formals)) source.body))
   pub small : size_of (core_module source) ≤ 100000

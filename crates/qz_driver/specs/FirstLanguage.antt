@@ -12,6 +12,7 @@ use Rattle.qz_syntax.specs.declared.statements.Stmt.TheOpen.{Stmt-F}
 use Rattle.qz_syntax.specs.declared.statements.Stmt.TheFolds.{fold-Stmt}
 use Rattle.qz_syntax.specs.declared.modules.Module.{Module}
 use Rattle.qz_syntax.specs.Numbers.{places_of}
+use Rattle.qz_syntax.specs.DoubleNames.{formal_names, are_distinct}
 use Rattle.qz_driver.specs.Mirror.{bit_of}
 
 -- an output by its number
@@ -44,8 +45,10 @@ abbrev pub is_event_output : Formal → Bool
 is_event_output formal =
     elim formal.class [ Event ↦ elim formal.dir [ dir.Out ↦ is_bool formal.ty | dir.In ↦ false ] | Mem ↦ false ]
 
--- a module of the first language, as it is read: its outputs, and its body with numbered places
+-- a module of the first language, as it is read: its outputs, whose names differ, and its body with numbered
+-- places
 pub record IsFirst (m : Module) : Type 0 where
   pub formals : IsTrue (list_all (λ (formal : Formal). is_event_output formal) m.formals)
+  pub names : IsTrue (are_distinct (formal_names m.formals))
   pub body : IsTrue (is_first (length m.formals) m.body)
   pub places : places_of m.body ≡ range_with_len 0 (length m.labels)

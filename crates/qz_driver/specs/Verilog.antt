@@ -1,10 +1,13 @@
 -- What a Verilog module means, after IEEE 1364-2005, where all nets are one bit wide.
-use Rattle.std.specs.Prelude.{ℕ, ◌≡◌, ◌<◌, Bool, false, ◌&&◌, ◌||◌, not, List, [], ◌∷◌, map, length, Some, slice_get}
+use Rattle.std.specs.Prelude.{ℕ, ◌≡◌, ◌<◌, Bool, false, ◌&&◌, ◌||◌, not, List, [], ◌∷◌, map, length, Some, slice_get, IsTrue}
 use Rattle.std.specs.List.{AllByRecursion}
 use Rattle.qz_values.specs.declared.Value.{Value}
+use Rattle.qz_values.specs.declared.Ty.TheVariants as ty
 use Rattle.qz_values.specs.declared.Op2.{Op2}
 use Rattle.qz_values.specs.declared.Op2.TheVariants as op
-use Rattle.qz_values.specs.Values.{is_yes}
+use Rattle.qz_values.specs.Values.{is_yes, truth_of}
+use Rattle.qz_syntax.specs.declared.declarations.Port.{Port}
+use Rattle.qz_syntax.specs.DoubleNames.{are_distinct}
 use Rattle.qz_driver.specs.declared.verilog.Ref.{Ref}
 use Rattle.qz_driver.specs.declared.verilog.Ref.TheVariants as net
 use Rattle.qz_driver.specs.declared.verilog.Rhs.{Rhs}
@@ -64,15 +67,31 @@ abbrev pub IsDeclared : ℕ → ℕ → Ref → Type 0
 IsDeclared registers wires (net.Reg number) = number < registers
 IsDeclared registers wires (net.Wire number) = number < wires
 
-abbrev pub ReadsDeclared : ℕ → ℕ → Rhs → Type 0
-ReadsDeclared registers wires (rhs.Const value) = Unit {0}
-ReadsDeclared registers wires (rhs.Invert a) = IsDeclared registers wires a
-ReadsDeclared registers wires (rhs.Bin op a b) = IsDeclared registers wires a × IsDeclared registers wires b
+-- the bool with some bit
+abbrev pub IsBit : Value → Type 0
+IsBit value = (bit : Bool) × (value ≡ truth_of bit)
 
--- a module that can be written: each wire reads registers and earlier wires alone, and each output and
--- each register has a net that drives it
+-- an operator of the language that is written here
+abbrev pub IsSign : Op2 → Type 0
+IsSign op.And = Unit {0}
+IsSign op.Or = Unit {0}
+IsSign other = ⊥
+
+-- what can stand on the right side of a wire, given how many registers and earlier wires there are: a constant
+-- is a bool, an operator is `&` or `|`, and what is read is declared
+abbrev pub IsRightSide : ℕ → ℕ → Rhs → Type 0
+IsRightSide registers wires (rhs.Const value) = IsBit value
+IsRightSide registers wires (rhs.Invert a) = IsDeclared registers wires a
+IsRightSide registers wires (rhs.Bin op a b) = IsSign op × IsDeclared registers wires a × IsDeclared registers wires b
+
+-- a module that can be written: its outputs are bools whose names differ, its registers begin with bools, each
+-- wire's right side reads registers and earlier wires alone, and each output and each register has a net that
+-- drives it
 pub record IsValid (m : VModule) : Type 0 where
-  pub wires : (number : ℕ) (right : Rhs) → slice_get m.wires number ≡ Some right → ReadsDeclared (length m.regs) number right
+  pub names : IsTrue (are_distinct (map (λ (output : Port). output.name) m.outputs))
+  pub bools : AllByRecursion (λ (output : Port). output.ty ≡ ty.Bool) m.outputs
+  pub begins : AllByRecursion IsBit m.regs
+  pub wires : (number : ℕ) (right : Rhs) → slice_get m.wires number ≡ Some right → IsRightSide (length m.regs) number right
   pub outs : AllByRecursion (IsDeclared (length m.regs) (length m.wires)) m.outs
   pub nexts : AllByRecursion (IsDeclared (length m.regs) (length m.wires)) m.nexts
   pub driven : length m.outs ≡ length m.outputs

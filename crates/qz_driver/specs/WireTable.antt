@@ -3,7 +3,7 @@ use Rattle.std.specs.Prelude.{ℕ, Bool, ◌≡◌, ◌≤◌, List, length, Som
 use Rattle.qz_driver.specs.declared.wires.Wires.{Wires}
 use Rattle.qz_driver.specs.declared.verilog.Ref.{Ref}
 use Rattle.qz_driver.specs.declared.verilog.Rhs.{Rhs}
-use Rattle.qz_driver.specs.Verilog.{Nets, bit_at, Settles, IsDeclared, ReadsDeclared}
+use Rattle.qz_driver.specs.Verilog.{Nets, bit_at, Settles, IsDeclared, IsRightSide}
 
 -- the right sides in the order of the wires' numbers
 abbrev pub rights : Wires → List Rhs
@@ -23,7 +23,7 @@ pub record Has (registers : ℕ) (wires : Wires) (net : Ref) : Type 0 where
 
 -- each right side reads registers and earlier wires alone
 pub record IsSound (registers : ℕ) (wires : Wires) : Type 0 where
-  pub each : (number : ℕ) (right : Rhs) → slice_get (rights wires) number ≡ Some right → ReadsDeclared registers number right
+  pub each : (number : ℕ) (right : Rhs) → slice_get (rights wires) number ≡ Some right → IsRightSide registers number right
 
 -- a table of which each right side reads registers and earlier wires alone, and one of its nets
 pub record Declares (registers : ℕ) (wires : Wires) (net : Ref) : Type 0 where

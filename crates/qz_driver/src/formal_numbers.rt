@@ -1,7 +1,8 @@
 //! The numbers of a module's formals by their names.
 
 ghost use Rattle.std.specs.Prelude.{◌≡◌, true, false, IfOk, MatchOption};
-ghost use Rattle.qz_driver.specs.CoreTree.{names_of, number_of, differ};
+ghost use Rattle.qz_driver.specs.CoreTree.{number_of};
+ghost use Rattle.qz_syntax.specs.DoubleNames.{formal_names, are_distinct};
 
 use indexmap::IndexSet;
 use qz_syntax::{Formal, Name};
@@ -25,8 +26,8 @@ impl Model for FormalNumbers {
 impl FormalNumbers {
     /// The numbers of these formals, or `None` where two of them have one name.
     pub fn new(alloc: Global, formals: &[Formal]) -> Result<Option<FormalNumbers>, AllocError>
-        ensures { IfOk result (λ made. MatchOption made (differ (names_of formals.now) ≡ false)
-            (λ numbers. (numbers ≡ names_of formals.now) × (differ (names_of formals.now) ≡ true))) }
+        ensures { IfOk result (λ made. MatchOption made (are_distinct (formal_names formals.now) ≡ false)
+            (λ numbers. (numbers ≡ formal_names formals.now) × (are_distinct (formal_names formals.now) ≡ true))) }
     {
         let mut names = IndexSet::new(alloc);
         for formal in formals {

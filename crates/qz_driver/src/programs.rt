@@ -295,6 +295,8 @@ impl Nets {
     fn value(&self, rt: &impl Abort, right: &str) -> bool {
         if let Some((a, b)) = right.split_once(" | ") {
             self.bit(rt, a) | self.bit(rt, b)
+        } else if let Some((a, b)) = right.split_once(" & ") {
+            self.bit(rt, a) & self.bit(rt, b)
         } else if let Some(net) = right.strip_prefix("~") {
             !self.bit(rt, net)
         } else {

@@ -7,7 +7,8 @@ ghost use Rattle.qz_syntax.specs.Sizes.{size_of};
 ghost use Rattle.qz_syntax.specs.declared.expressions.Expr.TheVariants.{Lit};
 ghost use Rattle.qz_syntax.specs.declared.expressions.Var.TheVariants as variable;
 ghost use Rattle.qz_syntax.specs.declared.statements.Stmt.TheVariants as stmt;
-ghost use Rattle.qz_driver.specs.CoreTree.{IsAsked, core_module, number_of, differ, sequence, names_of, core, cores};
+ghost use Rattle.qz_driver.specs.CoreTree.{IsAsked, core_module, number_of, sequence};
+ghost use Rattle.qz_syntax.specs.DoubleNames.{formal_names, are_distinct};
 ghost use Rattle.qz_driver.specs.Reading.{OnNotBuilt};
 ghost use Rattle.qz_driver.specs.Typing.{IsCore, AreCores, NoCore, NoCores};
 
@@ -101,10 +102,10 @@ fn body(
     parts: &[SourceStmt],
 ) -> Result<Items<Stmt>, NoSource>
     ensures core { IfOk result
-        (λ stmts. AreCores (names_of formals.now) parts.now counts.old stmts counts.new) }
-    ensures apart { OnOk result (IsTrue (differ (names_of formals.now))) }
+        (λ stmts. AreCores (formal_names formals.now) parts.now counts.old stmts counts.new) }
+    ensures apart { OnOk result (IsTrue (are_distinct (formal_names formals.now))) }
     ensures none { IfErr result (λ fault. OnNotBuilt fault
-        (IsTrue (differ (names_of formals.now)) → NoCores (names_of formals.now) parts.now counts.old)) }
+        (IsTrue (are_distinct (formal_names formals.now)) → NoCores (formal_names formals.now) parts.now counts.old)) }
 {
     match FormalNumbers::new(alloc, formals)? {
         Some(numbers) => members(alloc, &numbers, counts, parts),

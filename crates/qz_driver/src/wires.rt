@@ -2,7 +2,7 @@
 
 ghost use Rattle.std.specs.Prelude.{◌≡◌, ℕ, ◌&&◌, ◌||◌, not, [], length, IfOk, IfSome};
 ghost use Rattle.qz_driver.specs.declared.verilog.Rhs.{Rhs};
-ghost use Rattle.qz_driver.specs.Verilog.{Nets, bit_at, right_side, ReadsDeclared};
+ghost use Rattle.qz_driver.specs.Verilog.{Nets, bit_at, right_side, IsRightSide};
 ghost use Rattle.qz_driver.specs.WireTable.{rights, Reads, Extends, Has, IsSound, Declares, Carries};
 
 use crate::verilog::{Ref, Rhs, is_true};
@@ -37,7 +37,7 @@ impl Wires {
         ensures extends { Extends self.old self.new }
         ensures means { IfOk result (λ net. Carries self.new net (λ nets. right_side nets rhs)) }
         ensures declares { IfOk result (λ net. (registers : ℕ) → IsSound registers self.old →
-            ReadsDeclared registers (length (rights self.old)) rhs → Declares registers self.new net) }
+            IsRightSide registers (length (rights self.old)) rhs → Declares registers self.new net) }
     {
         let (number, _) = self.table.insert_full(rhs)?;
         Ok(Ref::Wire(number as u64))

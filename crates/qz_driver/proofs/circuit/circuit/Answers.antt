@@ -61,7 +61,9 @@ returns c =
           let nexts = c.in_ok-nexts.ensures.declares registers
           (subst Q (sym c.as_slice-3.ensures.value) (rests_stay registers _ _ c.in_ok-outs.ensures.extends outs.sound _ rested)) stays in
           let R : List Ref → Type 0 = λ row. DeclaresRow registers table row in
-          is_valid _ table registers
+          is_valid _ table registers c.args.m first
+          (c.in_ok-outputs.ensures ∙ ap (map port_of) c.as_slice.ensures)
+          (c.in_ok-initial.ensures ∙ ap (λ (n : ℕ). replicate n no ++ no ∷ []) c.len-places.ensures)
           (c.in_ok-from_slice.ensures ∙ c.as_slice-4.ensures)
           (ap length c.in_ok-initial.ensures ∙ length-append (replicate c.len-places.result no) (no ∷ [])
           ∙ ap (λ n. n + 1) (length-replicate c.len-places.result no ∙ c.len-places.ensures))
