@@ -1,0 +1,4 @@
+pub mod Types
+pub mod Validity
+pub mod Meaning
+pub mod Runs

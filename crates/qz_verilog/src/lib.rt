@@ -1,0 +1,12 @@
+//! Synchronous Verilog modules: which are valid, and what they do at each clock.
+//!
+//! The constructs follow IEEE 1364-2005. All nets and registers are without sign. Wires are
+//! assigned continuously; at each rise of the clock the outputs are read, and then every register
+//! takes a net's value, all from before the clock.
+#![tactic(auto)]
+
+mod modules;
+mod nets;
+
+pub use modules::VModule;
+pub use nets::{Ref, Rhs};
