@@ -44,6 +44,10 @@ given3 table (Some r) s t = given2 (table r) s t
 abbrev pub is_value : Value → Bool
 is_value v = is_type (type_of v) && nat_lt (bits_of v) (2 ^ width_of (type_of v))
 
+-- the type of a constant
+abbrev pub constant_type : Value → Option Ty
+constant_type value = (if is_value value then Some (type_of value) else None)
+
 -- the operator of the language that `~` is
 abbrev pub inversion_of : Ty → Op1
 inversion_of ty.Bool = op1.Not
@@ -60,7 +64,7 @@ has_sign op = true
 -- the type of a right side; `None` where it is none that can be written, reads a net that isn't declared, or has
 -- operands of types that its operator doesn't take
 abbrev pub right_side_type : NetTypes → Rhs → Option Ty
-right_side_type types (rhs.Const value) = (if is_value value then Some (type_of value) else None)
+right_side_type types (rhs.Const value) = constant_type value
 right_side_type types (rhs.Invert a) = given1 inverted_type (net_type types a)
 right_side_type types (rhs.Bin op a b) =
     (if has_sign op then given2 (type2_of op) (net_type types a) (net_type types b) else None)

@@ -5,8 +5,11 @@
 //! takes a net's value, all from before the clock.
 #![tactic(auto)]
 
+mod declared;
 mod modules;
 mod nets;
+mod tables;
 
+pub use declared::Declared;
 pub use modules::VModule;
 pub use nets::{Ref, Rhs};
