@@ -1,7 +1,7 @@
 //! The nets that are declared, and the types of right sides that read them.
 
 ghost use Rattle.std.specs.Prelude.{◌≡◌};
-ghost use Rattle.qz_verilog.specs.Types.{net_type, right_side_type, constant_type, has_sign};
+ghost use Rattle.qz_verilog.specs.Types.{net_type, right_side_type, constant_type, has_sign, is_value};
 ghost use Rattle.qz_verilog.specs.Validity.{declared_types};
 
 use crate::nets::{Ref, Rhs};
@@ -51,13 +51,21 @@ impl<'a> Declared<'a> {
 }
 
 /// The type of a constant. `None` where its number doesn't fit its type.
-pub fn constant_type(value: Value) -> Option<Ty>
+fn constant_type(value: Value) -> Option<Ty>
     ensures { result ≡ constant_type value }
 {
-    match Value::new(value.ty(), value.bits()) {
-        Some(_) => Some(value.ty()),
-        None => None,
+    if is_value(value) {
+        Some(value.ty())
+    } else {
+        None
     }
+}
+
+/// Whether the number fits its type, and there is such a type.
+pub fn is_value(value: Value) -> bool
+    ensures { result ≡ is_value value }
+{
+    Value::new(value.ty(), value.bits()).is_some()
 }
 
 /// Whether there is a sign for the operator.

@@ -9,7 +9,9 @@ mod declared;
 mod modules;
 mod nets;
 mod tables;
+mod validity;
 
 pub use declared::Declared;
 pub use modules::VModule;
 pub use nets::{Ref, Rhs};
+pub use validity::validate;
