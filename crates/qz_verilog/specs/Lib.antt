@@ -2,3 +2,4 @@ pub mod Types
 pub mod Validity
 pub mod Meaning
 pub mod Runs
+pub mod Laws

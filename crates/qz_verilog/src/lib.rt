@@ -6,12 +6,14 @@
 #![tactic(auto)]
 
 mod declared;
+mod laws;
 mod modules;
 mod nets;
 mod tables;
 mod validity;
 
 pub use declared::Declared;
+pub use laws::{a_valid_module_keeps_types, a_valid_module_runs_once, a_valid_module_settles_once};
 pub use modules::VModule;
 pub use nets::{Ref, Rhs};
 pub use validity::validate;
