@@ -14,6 +14,7 @@ use Rattle.qz_verilog.specs.Validity.{port_types, register_types, wire_types, de
 use Rattle.qz_verilog.specs.Meaning.{Nets, value_at}
 use Rattle.qz_verilog.specs.Runs.{AreOf, IsRow, nets_of}
 use Rattle.qz_verilog.specs.Laws.{KeepsTypes}
+use Rattle.qz_verilog.specs.Simulation.{HaveTypes}
 use Rattle.qz_verilog.proofs.RightSides.{AreTyped, typed_right}
 use Rattle.qz_verilog.proofs.Settling.{SettlesFrom, whole_settles}
 
@@ -39,12 +40,6 @@ AreOf-more (s ∷ ts) (w ∷ vs) t v h is = (h.0, AreOf-more ts vs t v h.1 is)
 pub AreOf-values : (vs : List Value) → AllByRecursion IsValue vs → AreOf (register_types vs) vs
 AreOf-values [] h = tt
 AreOf-values (v ∷ vs) h = (record { typed = refl; fits = h.0.fits }, AreOf-values vs h.1)
-
--- nets of these types
-pub record HaveTypes (types : NetTypes) (nets : Nets) : Type 0 where
-  pub inputs : AreOf types.inputs nets.inputs
-  pub registers : AreOf types.registers nets.registers
-  pub wires : AreOf types.wires nets.wires
 
 pub typed_nets : (types : NetTypes) (nets : Nets) → HaveTypes types nets → AreTyped types nets
 typed_nets types nets h (net.Input number) t is = AreOf-get types.inputs nets.inputs h.inputs number t is

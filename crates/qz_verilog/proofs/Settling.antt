@@ -1,6 +1,6 @@
 -- A valid module settles in one way: each wire reads only what is settled before it.
-use Rattle.std.proofs.Common.{◌≡◌, ℕ, zero, suc, ◌+◌, List, [], ◌∷◌, ◌++◌, length, get_or, slice_get, Some, refl, sym, ap, ap₂, subst, ◌∙◌, arith, length-append, zero-add}
-use Rattle.std.proofs.lemmas.List.{get_or_append_left, append_assoc}
+use Rattle.std.proofs.Common.{◌≡◌, ℕ, zero, suc, ◌+◌, ◌<◌, List, [], ◌∷◌, ◌++◌, length, get_or, take, set, slice_get, Some, refl, sym, ap, ap₂, subst, ◌∙◌, arith, length-append, zero-add, append-nil}
+use Rattle.std.proofs.lemmas.List.{get_or_append_left, append_assoc, take_more, take_more_set}
 use Rattle.std.proofs.Math.Seq.{get_or-append_seam}
 use Rattle.std.proofs.Math.Nat.{suc-ne-zero}
 use Rattle.std.proofs.lemmas.Option.{slice_get_within}
@@ -54,6 +54,24 @@ module _ (registers row : List Value) where
   one_longer : (types : NetTypes) (done : List Value) (t : Ty) (v : Value) → length types.wires ≡ length done →
       length (with_wire types t).wires ≡ length (done ++ v ∷ [])
   one_longer types done t v count = length-append types.wires (t ∷ []) ∙ ap (λ n. n + 1) count ∙ sym (length-append done (v ∷ []))
+
+  -- one wire more
+  pub SettlesFrom-more : (done : List Value) (wires : List (Ty × Rhs)) (vs : List Value) (wire : Ty × Rhs) (v : Value) →
+      SettlesFrom done wires vs → v ≡ right_side (nets (done ++ vs)) wire.1 → SettlesFrom done (wires ++ wire ∷ []) (vs ++ v ∷ [])
+  SettlesFrom-more done [] [] wire v h is = (is ∙ ap (λ all. right_side (nets all) wire.1) (append-nil done), tt)
+  SettlesFrom-more done [] (x ∷ vs) wire v h is = absurd h
+  SettlesFrom-more done (w ∷ wires) [] wire v h is = absurd h
+  SettlesFrom-more done (w ∷ wires) (x ∷ vs) wire v h is = (
+    h.0,
+    SettlesFrom-more (done ++ x ∷ []) wires vs wire v h.1 (is ∙ ap (λ all. right_side (nets all) wire.1) (sym (append_assoc done (x ∷ []) vs))),
+  )
+
+  -- the next wire's value is written behind those that are settled
+  pub SettlesFrom-step : (wires : List (Ty × Rhs)) (vs : List Value) (k : ℕ) (d : Ty × Rhs) (v : Value) → k < length wires → k < length vs →
+      SettlesFrom [] (take k wires) (take k vs) → v ≡ right_side (nets (take k vs)) (get_or wires k d).1 →
+      SettlesFrom [] (take (k + 1) wires) (take (k + 1) (set vs k v))
+  SettlesFrom-step wires vs k d v below room h is =
+      rw (take_more wires k d below, take_more_set vs k v room) (SettlesFrom-more [] (take k wires) (take k vs) (get_or wires k d) v h is)
 
   -- the assignments of wires after those that are settled
   pub record Assigned (done : List Value) (wires : List (Ty × Rhs)) (vs : List Value) : Type 0 where

@@ -3,3 +3,4 @@ pub mod Validity
 pub mod Meaning
 pub mod Runs
 pub mod Laws
+pub mod Simulation

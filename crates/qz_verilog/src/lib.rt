@@ -9,11 +9,14 @@ mod declared;
 mod laws;
 mod modules;
 mod nets;
+mod simulation;
 mod tables;
 mod validity;
+mod wires;
 
 pub use declared::Declared;
 pub use laws::{a_valid_module_keeps_types, a_valid_module_runs_once, a_valid_module_settles_once};
 pub use modules::VModule;
 pub use nets::{Ref, Rhs};
+pub use simulation::Sim;
 pub use validity::validate;
