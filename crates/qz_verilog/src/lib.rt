@@ -11,6 +11,8 @@ mod modules;
 mod nets;
 mod simulation;
 mod tables;
+#[cfg(test)]
+mod tests;
 mod validity;
 mod wires;
 

@@ -1,6 +1,6 @@
 //! Running a module, clock by clock.
 
-ghost use Rattle.std.specs.Prelude.{◌≡◌, IfOk, length, map};
+ghost use Rattle.std.specs.Prelude.{◌≡◌, ◌↔◌, IfOk, IsTrue, length, map};
 ghost use Rattle.std.specs.List.{AllByRecursion};
 ghost use Rattle.qz_values.specs.Types.{IsType};
 ghost use Rattle.qz_values.specs.Values.{bits_of};
@@ -62,6 +62,21 @@ impl Sim {
         })
     }
 
+    /// The module.
+    pub fn circuit(&self) -> &VModule
+        ensures { result.now ≡ self.now.circuit }
+    {
+        &self.circuit
+    }
+
+    /// Whether there is a number for each input, which fits the input's type.
+    pub fn takes(&self, inputs: &[u64]) -> bool
+        ensures { IsTrue result ↔ ((length inputs.now ≡ length self.now.circuit.inputs)
+            × IsRow self.now.circuit (row_of (port_types self.now.circuit.inputs) inputs.now)) }
+    {
+        fit(self.circuit.inputs.as_slice(), inputs)
+    }
+
     /// One clock. `inputs` has a number for each input, which fits the input's type. `outputs` has
     /// room for a number for each output, and gets the numbers of their values before the clock.
     pub fn clock(&mut self, inputs: &[u64], outputs: &mut [u64])
@@ -95,6 +110,23 @@ fn blank(alloc: Global, count: usize) -> Result<Vec<Value>, AllocError>
     ensures { IfOk result (λ values. length values.items ≡ count) }
 {
     vec![in alloc; Value::truth(false); count]
+}
+
+/// Whether there is a number for each port, which fits the port's type.
+fn fit(ports: &[Port], numbers: &[u64]) -> bool
+    requires { AllByRecursion IsType (port_types ports.now) }
+    ensures { IsTrue result ↔ ((length numbers.now ≡ length ports.now)
+        × AreOf (port_types ports.now) (row_of (port_types ports.now) numbers.now)) }
+{
+    if numbers.len() != ports.len() {
+        return false;
+    }
+    for (number, port) in ports.iter().enumerate() {
+        if Value::new(port.ty, numbers[number]).is_none() {
+            return false;
+        }
+    }
+    true
 }
 
 /// Sets `values` to these numbers, each as a value of its input's type.
