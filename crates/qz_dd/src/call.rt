@@ -34,7 +34,7 @@ pub struct Call {
     pub c: DdId,
 }
 
-/// The answer, where it is an operand or a constant.
+/// The answer, where it is plain from the operands: one of them or a constant.
 pub fn shortcut(call: Call) -> Option<DdId>
     ensures value { IfSome result (λ d. (known : ℕ → Bool) → known 0 ≡ false → known 1 ≡ true → known d.0 ≡ call_value known call) }
     ensures among { IfSome result (λ d. (test : ℕ → Bool) → test 0 ≡ true → test call.a.0 ≡ true → test call.b.0 ≡ true → test call.c.0 ≡ true →

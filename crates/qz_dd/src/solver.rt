@@ -1,21 +1,24 @@
-//! Solver, with the results of all that was asked.
+//! Answers calls, and keeps each answer (the computed table of the literature).
+//!
+//! A call whose answer isn't plain is taken apart by the first variable of its operands: the node of
+//! that variable, with the answers to the call's two cofactors as sides, is its answer.
 
-ghost use Rattle.std.specs.Prelude.{false, ◌↔◌, IsTrue, MatchBool, slice_index_or, cond, ◌≡◌, ◌<◌, ◌+◌, ◌-◌, ◌≤◌, ℕ, Bool, List, None, IfOk, IfSome, length};
+ghost use Rattle.std.specs.Prelude.{false, slice_index_or, ◌≡◌, ◌<◌, ◌+◌, ◌-◌, Bool, List, None, IfOk, IfSome};
 ghost use Rattle.std.specs.Option.{IfNone};
-ghost use Rattle.qz_dd.specs.Calls.{IsUndecided, size, op_value, call_value};
+ghost use Rattle.qz_dd.specs.Calls.{IsUndecided, size, call_value};
 ghost use Rattle.qz_dd.specs.Tables.{Carries, count, value_in, level_in, Extends, IsMade};
-ghost use Rattle.qz_dd.specs.Least.{IsLeast, IsNowhere};
 ghost use Rattle.qz_dd.specs.Answers.{Has, IsAnswer, AreRight, IsTop, IsLow, IsHigh, IsCofactorCall, Awaits, Chained, OnWay, steps, steps_left, all_steps, frame_steps};
 ghost use Rattle.std.proofs.Props.{props};
 ghost use Rattle.qz_dd.specs.declared.call.Call.{Call};
 
-use crate::call::{Call, DdOp, Task, shortcut};
+use crate::call::{Call, shortcut};
 use crate::node::DdId;
 use crate::table::Table;
 use crate::work::{Frame, Work};
 use indexmap::IndexMap;
 use std::alloc::{AllocError, Global};
 
+/// The table, and what calls gave so far.
 #[derive(Drop)]
 pub struct Solver {
     pub table: Table,
@@ -46,7 +49,7 @@ impl Solver {
         a.min(b).min(c)
     }
 
-    /// The call at this value of the variable.
+    /// The call's cofactor: what it asks for where the variable has this value.
     fn cofactor(&self, call: Call, var: u32, side: bool) -> Call
         requires has { Has self.now.table call }
         requires top { IsTop self.now.table var call }
@@ -115,7 +118,7 @@ impl Solver {
         Ok(())
     }
 
-    /// The number of the diagram that is `high` where the variable is true, else `low`.
+    /// The number of the function that is `high` where the variable is true, else `low`.
     fn make(&mut self, var: u32, low: DdId, high: DdId) -> Result<DdId, AllocError>
         requires variable { var < self.old.table.vars }
         requires low_below { low.0 < count self.old.table }
@@ -172,7 +175,7 @@ impl Solver {
         }
     }
 
-    /// The call's function.
+    /// The number of the function that the call asks for.
     pub fn solve(&mut self, alloc: Global, asked: Call) -> Result<DdId, AllocError>
         requires { Has self.old.table asked }
         ensures extends { Extends self.old.table self.new.table }
@@ -196,7 +199,7 @@ impl Solver {
         }
     }
 
-    /// The diagram that is the variable's bit.
+    /// The number of the function that is the variable's bit.
     pub fn var(&mut self, v: u32) -> Result<DdId, AllocError>
         requires { v < self.old.table.vars }
         ensures extends { Extends self.old.table self.new.table }

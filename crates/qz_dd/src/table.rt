@@ -1,6 +1,6 @@
 //! The table of nodes, each of which it has once (the unique table of the literature).
 
-ghost use Rattle.std.specs.Prelude.{◌≡◌, ◌<◌, ◌≤◌, ◌+◌, ◌↔◌, IsTrue, ℕ, Bool, List, cond, IfOk, MatchOption, MatchBool, length};
+ghost use Rattle.std.specs.Prelude.{◌≡◌, ◌<◌, ◌≤◌, ◌+◌, ◌↔◌, IsTrue, Bool, List, IfOk, MatchOption, MatchBool, length};
 ghost use Rattle.qz_dd.specs.Nodes.{AreDiagrams};
 ghost use Rattle.std.proofs.Props.{props};
 
