@@ -2,12 +2,14 @@
 use crate::reading::read_all;
 use crate::writing::write_bytes;
 use crate::{FileFault, Files, Got, HostFiles, HostSink, MemFiles, MemSink, Sink, SureFiles};
-use std::alloc::Global;
+use std::alloc::{Allocator, Global};
 use std::fmt::Display;
+use std::fs::{File, Metadata, OpenOptions};
 use std::io::{ErrorKind, Read, Write};
+use std::os::unix::fs::symlink;
 use std::process::Abort;
 use std::test::Fail;
-use std::{fs, io};
+use std::{fs, io, rt};
 
 /// The bytes, or words for another answer.
 fn shown(answer: &Result<Got, FileFault>) -> &[u8] {
@@ -193,14 +195,102 @@ fn files_of_the_system(rt: HostRuntime) -> Result<(), Fail> {
     assert_gets(&rt, alloc, &mut files, &[(NAME, 3, "absent")]);
     files.put(alloc, NAME, b"longer")?;
     files.put(alloc, NAME, b"one")?;
+    files.put(alloc, "qz_io_test/ b ", b"two")?;
     assert!(rt; files.put(alloc, FOLDER, b"one").is_err());
     let table = [
         (NAME, 3, "one"),
         (NAME, 2, "too long"),
         (FOLDER, 3, "failed"),
+        ("qz_io_test/a/b", 3, "failed"),
+        ("qz_io_test/ b ", 3, "two"),
+        ("qz_io_test/b", 3, "absent"),
     ];
     assert_gets(&rt, alloc, &mut files, &table);
     fs::remove_dir_all(&rt, FOLDER)?;
+    Ok(())
+}
+
+#[test]
+fn many_bytes_are_put_whole(rt: HostRuntime) -> Result<(), Fail> {
+    let alloc = rt.alloc();
+    let name = "qz_io_test_many";
+    let mut bytes = vec![in alloc; b'a'; 200_000]?;
+    bytes.push(b'b')?;
+    let mut files = HostFiles::new(rt);
+    files.put(alloc, name, bytes.as_slice())?;
+    let is_whole = shown(&files.get(alloc, name, 200_001)) == bytes.as_slice();
+    assert!(rt; is_whole, "other bytes than were put");
+    fs::remove_file(&rt, name)?;
+    Ok(())
+}
+
+/// The system's files, but none that is made can be written.
+#[derive(Drop)]
+struct FullDisk {
+    rt: HostRuntime,
+}
+
+impl rt::Files for FullDisk {
+    type File = File;
+
+    type Dir = <HostRuntime as rt::Files>::Dir;
+
+    fn open_file(&self, how: &OpenOptions, path: &str) -> io::Result<File> {
+        let _made = self.rt.open_file(how, path)?;
+        fs::open(&self.rt, path)
+    }
+
+    fn open_dir(&self, path: &str) -> io::Result<Self::Dir> {
+        self.rt.open_dir(path)
+    }
+
+    fn metadata(&self, path: &str) -> io::Result<Metadata> {
+        rt::Files::metadata(&self.rt, path)
+    }
+
+    fn symlink_metadata(&self, path: &str) -> io::Result<Metadata> {
+        self.rt.symlink_metadata(path)
+    }
+
+    fn copy(&self, from: &str, to: &str) -> io::Result<u64> {
+        self.rt.copy(from, to)
+    }
+
+    fn rename(&self, from: &str, to: &str) -> io::Result<()> {
+        self.rt.rename(from, to)
+    }
+
+    fn remove_file(&self, path: &str) -> io::Result<()> {
+        self.rt.remove_file(path)
+    }
+
+    fn create_dir(&self, path: &str) -> io::Result<()> {
+        self.rt.create_dir(path)
+    }
+
+    fn remove_dir(&self, path: &str) -> io::Result<()> {
+        self.rt.remove_dir(path)
+    }
+
+    fn remove_dir_all<B: Allocator>(&self, alloc: B, path: &str) -> io::Result<()> {
+        self.rt.remove_dir_all(alloc, path)
+    }
+}
+
+#[test]
+fn what_a_failed_put_began_is_removed(rt: HostRuntime) -> Result<(), Fail> {
+    let alloc = rt.alloc();
+    let name = "qz_io_test_begun";
+    let mut files = HostFiles::new(FullDisk { rt });
+    assert!(rt; files.put(alloc, name, b"one").is_err());
+    assert_gets(&rt, alloc, &mut files, &[(name, 3, "absent")]);
+    symlink(&rt, "/dev/full", name)?;
+    assert!(rt; HostFiles::new(rt).put(alloc, name, b"one").is_err());
+    assert!(rt;
+        fs::symlink_metadata(&rt, name).is_ok(),
+        "the way to a device was removed"
+    );
+    fs::remove_file(&rt, name)?;
     Ok(())
 }
 
