@@ -1,144 +1,165 @@
--- What the answers say of the file, from what was got.
-use Rattle.std.proofs.Common.{◌≡◌, ℕ, ◌<◌, List, length, Option, Some, None, Err, IsSome, ◌⊎◌, inl, inr, sym, refl, subst, ◌∙◌}
-use Rattle.std.specs.Prelude.{◌↔◌, IsSomeAnd}
+-- The answer of a call, from what its mode's work came to.
+use Rattle.std.proofs.Common.{◌≡◌, ℕ, List, take, Option, None, Result, Ok, Err, ◌⊎◌, inl, inr, sym, refl, subst, ap, ◌∙◌, string_bytes}
 use Rattle.qz_io.specs.Counts.{Rose}
-use Rattle.qz_io.specs.Held.{Held, held_under}
-use Rattle.qz_io.specs.Answers.{IsAbsent, IsTooLong, IfBytes, OnFailed}
+use Rattle.qz_io.specs.Answers.{OnFailed}
 use Rattle.qz_io.specs.declared.answers.FileFault.{FileFault}
 use Rattle.qz_io.specs.declared.answers.FileFault.TheVariants as file
-use Rattle.qz_io.specs.declared.answers.Got.{Got}
-use Rattle.qz_io.specs.declared.answers.Got.TheVariants as got
-use Rattle.qz_driver.specs.declared.refusal.Refusal.{Refusal}
-use Rattle.qz_driver.specs.declared.build.Stop.TheVariants as stop
+use Rattle.qz_io.specs.Held.{Held}
 use Rattle.qz_driver.specs.declared.status.Status.{Status}
 use Rattle.qz_driver.specs.declared.status.Status.TheVariants as status
-use Rattle.qz_driver.specs.Commands.{Request}
-use Rattle.qz_driver.specs.Causes.{Cause, Usage, Absent, NotBuilt, InstantLoop, cause_of}
-use Rattle.qz_driver.specs.Verdicts.{IsNotBuilt, IsInstant, IsBuilt, IsAgainstBytes}
-use Rattle.qz_driver.specs.Texts.{TextFrom, HoldsCircuit}
-use Rattle.qz_driver.specs.Stops.{MadeFrom, StopsAt, IsOfBytes}
-use Rattle.qz_driver.specs.Answers.{Seen, IsThere, OfFile, CanStand, IsPutAnswer}
-use Rattle.qz_driver.proofs.VerdictLemmas.{not_built_or_built, instant_or_built, too_long_not_built}
+use Rattle.qz_driver.specs.declared.work.Output.{Output}
+use Rattle.qz_driver.specs.declared.work.Stop.{Stop}
+use Rattle.qz_driver.specs.declared.work.Stop.TheVariants as stop
+use Rattle.qz_driver.specs.Causes.{Cause, cause_of}
+use Rattle.qz_driver.specs.Rows.{Row, Asks, Content, StandsFirst, StandsNone, IsAgainst, IsMade, contents_in}
+use Rattle.qz_driver.specs.Answers.{FilesSeen, Seen, Puts, HoldsAtWant, SaysAtEnd, IsAnswer, Completes, FailsToRead}
+use Rattle.qz_driver.specs.Outcomes.{Ends, EndsInFile, EndsInLine}
+use Rattle.qz_driver.specs.Work.{IsWork}
 
--- what the files tell of the file that was got
-pub record Told (asked : Request) (old : Seen) (found : Got) : Type 0 where
-  pub absent : IsSome old.held → IsAbsent found ↔ (held_under old.held asked.file ≡ None)
-  pub too_long : IsSome old.held → IsTooLong found ↔ IsSomeAnd (held_under old.held asked.file) (λ bytes. 1048576 < length bytes)
-  pub bytes : IsSome old.held → IfBytes found (λ bytes. held_under old.held asked.file ≡ Some bytes)
+-- a cause that stands, and none that does, exclude each other
+stands_not : (row : Row) (contents others : List Content) (cause : Cause) → others ≡ contents → StandsFirst row others cause → StandsNone row contents → ⊥
+stands_not row contents others cause same stands none =
+    let P : List Content → Type 0 = λ c. row.against (take stands.count c) cause in
+    none.none stands.count cause (subst P same stands.stands)
 
--- where bytes are told, what is held is
-is_told : (held : Option Held) (name bytes : List ℕ) → held_under held name ≡ Some bytes → IsSome held
-is_told None name bytes e = cc
-is_told (Some held) name bytes e = refl
-
-module _ (asked : Request) (old : Seen) where
-  same_bytes : (bytes other : List ℕ) → held_under old.held asked.file ≡ Some bytes → held_under old.held asked.file ≡ Some other → bytes ≡ other
-  same_bytes bytes other e f = let g : Some bytes ≡ Some other = sym e ∙ f in cc (g)
-
-  pub built_of : (found : Got) → Told asked old found → MadeFrom asked.name found → OfFile asked old (λ bytes. IsBuilt asked.name bytes)
-  built_of (got.Bytes b) told built = record {
-    held = λ (bytes : List ℕ) (e : held_under old.held asked.file ≡ Some bytes).
-        subst (IsBuilt asked.name) (same_bytes b.items bytes (told.bytes (is_told old.held asked.file bytes e)) e) built;
-  }
-  built_of got.Absent told built = absurd built
-  built_of got.TooLong told built = absurd built
-
-  -- what is put is the text of a circuit that does the program of the bytes
-  pub does_of : (found : Got) → Told asked old found → (text : List ℕ) (held : Option (List ℕ)) → (IsSome old.held → held ≡ Some text)
-      → TextFrom asked.name found text → OfFile asked old (λ bytes. HoldsCircuit asked.name bytes held)
-  does_of (got.Bytes b) told text held put has = record {
-    held = λ (bytes : List ℕ) (e : held_under old.held asked.file ≡ Some bytes).
-        let known = is_told old.held asked.file bytes e in
-        let same : b.items ≡ bytes = same_bytes b.items bytes (told.bytes known) e in
-        let P : List ℕ → Type 0 = λ bs. HoldsCircuit asked.name bs held in
-        subst P same (record { text = text; put = put known; circuit = has });
-  }
-  does_of got.Absent told text held put has = absurd has
-  does_of got.TooLong told text held put has = absurd has
-
-  of_bytes : (items : List ℕ) (cause : Cause) → IsThere asked old → ((bytes : List ℕ) → held_under old.held asked.file ≡ Some bytes → items ≡ bytes)
-      → IsOfBytes asked.name asked.file items cause → CanStand asked old cause
-  of_bytes items Usage there same stands = absurd stands
-  of_bytes items (Absent file) there same stands = absurd stands
-  of_bytes items (NotBuilt file) there same stands =
-      (stands.0, there, record { held = λ (bytes : List ℕ) (e : held_under old.held asked.file ≡ Some bytes). subst (IsNotBuilt asked.name) (same bytes e) stands.1 })
-  of_bytes items (InstantLoop number who) there same stands = (
-    there,
-    record {
-      held = λ (bytes : List ℕ) (e : held_under old.held asked.file ≡ Some bytes).
-          subst (λ (b : List ℕ). IsInstant asked.name b number who) (same bytes e) stands;
-    },
-  )
-
-  pub there_of : (found : Got) → Told asked old found → (IsAbsent found → ⊥) → IsThere asked old
-  there_of found told not is e = not ((told.absent is).1 e)
-
-  long_of : (held : Option (List ℕ)) (bytes : List ℕ) → IsSomeAnd held (λ bytes. 1048576 < length bytes) → held ≡ Some bytes → 1048576 < length bytes
-  long_of None bytes long e = absurd (cc (e))
-  long_of (Some other) bytes long e = let same : other ≡ bytes = cc (e) in let P : List ℕ → Type 0 = λ b. 1048576 < length b in subst P same long
-
-  pub stands_of : (found : Got) (refusal : Refusal) → Told asked old found → StopsAt asked.name asked.file found (stop.Refused refusal) → CanStand asked old (cause_of refusal)
-  stands_of (got.Bytes b) refusal told stands =
-      of_bytes b.items (cause_of refusal) (there_of (got.Bytes b) told (λ never. never))
-      (λ bytes e. same_bytes b.items bytes (told.bytes (is_told old.held asked.file bytes e)) e) stands
-  stands_of got.Absent refusal told stands =
-      subst (CanStand asked old) (sym stands) (refl, λ is. (told.absent is).0 tt)
-  stands_of got.TooLong refusal told stands =
-      subst (CanStand asked old) (sym stands) (
-        refl,
-        there_of got.TooLong told (λ never. never),
-        record {
-          held = λ (bytes : List ℕ) (e : held_under old.held asked.file ≡ Some bytes).
-              too_long_not_built asked.name bytes (long_of (held_under old.held asked.file) bytes ((told.too_long (is_told old.held asked.file bytes e)).0 tt) e);
-        },
-      )
-
-  built_and_against : (bytes : List ℕ) → IsBuilt asked.name bytes → IsAgainstBytes asked.name bytes → ⊥
-  built_and_against bytes built (inl not) = not_built_or_built asked.name bytes not built
-  built_and_against bytes built (inr instant) = instant_or_built asked.name bytes instant.0 instant.1 instant.2 built
-
-  built_and_stands : (bytes : List ℕ) (cause : Cause) → held_under old.held asked.file ≡ Some bytes → IsBuilt asked.name bytes → CanStand asked old cause → ⊥
-  built_and_stands bytes Usage e built stands = stands
-  built_and_stands bytes (Absent file) e built stands =
-      let f : None ≡ Some bytes = sym (stands.1 (is_told old.held asked.file bytes e)) ∙ e in cc (f)
-  built_and_stands bytes (NotBuilt file) e built stands = not_built_or_built asked.name bytes (stands.2.held bytes e) built
-  built_and_stands bytes (InstantLoop number who) e built stands = instant_or_built asked.name bytes number who (stands.1.held bytes e) built
-
-  -- where a text was made, no cause stands
-  pub never_against : (request : Request) (bytes : List ℕ) → Some asked ≡ Some request → held_under old.held request.file ≡ Some bytes
-      → IsAgainstBytes request.name bytes → OfFile asked old (λ b. IsBuilt asked.name b) → ⊥
-  never_against request bytes words e against built =
-      let same : request ≡ asked = cc (words) in
-      let P : Request → Type 0 = λ r. held_under old.held r.file ≡ Some bytes in
-      let Q : Request → Type 0 = λ r. IsAgainstBytes r.name bytes in
-      let held = subst P same e in
-      built_and_against bytes (built.held bytes held) (subst Q same against)
-
-  -- where a cause stands, none is built
-  pub never_built : (cause : Cause) (request : Request) (bytes : List ℕ) → Some asked ≡ Some request → held_under old.held request.file ≡ Some bytes
-      → IsBuilt request.name bytes → CanStand asked old cause → ⊥
-  never_built cause request bytes words e built stands =
-      let same : request ≡ asked = cc (words) in
-      let P : Request → Type 0 = λ r. held_under old.held r.file ≡ Some bytes in
-      let Q : Request → Type 0 = λ r. IsBuilt r.name bytes in
-      built_and_stands bytes cause (subst P same e) (subst Q same built) stands
-
--- putting fails only where a count rose
-pub put_or_none : (answer : Status) (before after : ℕ) (o n : Option Held) → IsPutAnswer answer before after o n → ¬ Rose before after
-    → (answer ≡ status.Done) ⊎ (answer ≡ status.NoMemory)
-put_or_none status.Done before after o n is not = inl refl
-put_or_none status.WriteFault before after o n is not = absurd (not is)
-put_or_none status.NoMemory before after o n is not = inr refl
-put_or_none status.Refused before after o n is not = absurd is
-put_or_none status.Usage before after o n is not = absurd is
-put_or_none status.ReadFault before after o n is not = absurd is
-
-pub made_there : (name : List ℕ) (found : Got) → MadeFrom name found → IsAbsent found → ⊥
-made_there name (got.Bytes b) made is = is
-made_there name got.Absent made is = made
-made_there name got.TooLong made is = is
+-- files that tell the same
+pub same_files : (old new : FilesSeen) → new.held ≡ old.held → new.read_faults ≡ old.read_faults → new.write_faults ≡ old.write_faults → new.missed ≡ old.missed
+    → new ≡ old
+same_files old new held read write missed =
+    let seen : Option Held → ℕ → ℕ → Option (List ℕ) → FilesSeen = λ h r w m. record { held = h; read_faults = r; write_faults = w; missed = m } in
+    ap (λ (h : Option Held). seen h new.read_faults new.write_faults new.missed) held
+    ∙ ap (λ (r : ℕ). seen old.held r new.write_faults new.missed) read
+    ∙ ap (λ (w : ℕ). seen old.held old.read_faults w new.missed) write
+    ∙ ap (λ (m : Option (List ℕ)). seen old.held old.read_faults old.write_faults m) missed
 
 -- what holds where the call failed
-pub failed_so : (P : Type 0) (fault : FileFault) → fault ≡ file.Failed → OnFailed {A = Unit {0}} (Err fault) P → P
-failed_so P file.Failed e h = h
-failed_so P file.Memory e h = absurd (cc (e))
+pub failed_so : (A : Type 0) (P : Type 0) (fault : FileFault) → fault ≡ file.Failed → OnFailed {A = A} (Err fault) P → P
+failed_so A P file.Failed e h = h
+failed_so A P file.Memory e h = absurd (cc (e))
+
+-- the same files and sink, told at two moments
+abbrev seen_with : FilesSeen → Seen → Seen
+seen_with files seen = record { files = files; written = seen.written; faults = seen.faults }
+
+module _ (row : Row) (says : row.says ≡ None) (old new : Seen) where
+  -- where a file was made
+  made_answer : (output : Output) (answer : Status) → string_bytes output.name ≡ row.puts → IsMade row old.files.held output.bytes.items
+      → EndsInFile output old new answer → IsAnswer (Asks row) old new answer
+  made_answer output status.Done named made ends = record {
+    bytes = output.bytes.items;
+    made = made;
+    puts = subst (λ (name : List ℕ). Puts name output.bytes.items old new) named ends.puts;
+    says = subst (λ (line : Option (List ℕ)). SaysAtEnd line old new) (sym says) ends.nothing_written;
+  }
+  made_answer output status.WriteFault named made ends = inl (record {
+    bytes = output.bytes.items;
+    made = made;
+    rose = ends.rose;
+    nothing_written = ends.nothing_written;
+    others = λ other apart. ends.others other (λ same. apart (same ∙ named));
+  })
+  made_answer output status.NoMemory named made ends = (subst (λ (line : Option (List ℕ)). HoldsAtWant line row old new) (sym says) ends.0, ends.1)
+  made_answer output status.Refused named made ends = absurd ends
+  made_answer output status.Usage named made ends = absurd ends
+  made_answer output status.ReadFault named made ends = absurd ends
+
+  made_completes : (output : Output) (answer : Status) → IsMade row old.files.held output.bytes.items → EndsInFile output old new answer → Completes row old new answer
+  made_completes output answer made ends = record {
+    answered = λ not_read not_write not_line. answered answer ends not_write;
+    refused = λ cause known stands not_read not_line. absurd (stands_not row made.contents (contents_in old.files.held row.reads) cause (sym (made.are.told known)) stands made.none);
+    done = λ known none not_read not_write went. done answer ends not_write;
+  } where
+    done : (answer : Status) → EndsInFile output old new answer → ¬ Rose old.files.write_faults new.files.write_faults → (answer ≡ status.Done) ⊎ (answer ≡ status.NoMemory)
+    done status.Done ends not_write = inl refl
+    done status.WriteFault ends not_write = absurd (not_write ends.rose)
+    done status.NoMemory ends not_write = inr refl
+    done status.Refused ends not_write = absurd ends
+    done status.Usage ends not_write = absurd ends
+    done status.ReadFault ends not_write = absurd ends
+
+    answered : (answer : Status) → EndsInFile output old new answer → ¬ Rose old.files.write_faults new.files.write_faults
+        → (answer ≡ status.Refused) ⊎ (answer ≡ status.Done) ⊎ (answer ≡ status.NoMemory)
+    answered answer ends not_write = inr (done answer ends not_write)
+
+  -- where a cause stands
+  stopped_answer : (cause : Cause) (answer : Status) → IsAgainst row old.files.held cause → EndsInLine cause old new answer → IsAnswer (Asks row) old new answer
+  stopped_answer cause status.Refused against ends = record { cause = cause; stands = against; says = ends }
+  stopped_answer cause status.WriteFault against ends = inr (inr (record { cause = cause; stands = against; writes = ends.0; held = ends.1 }))
+  stopped_answer cause status.NoMemory against ends = (subst (λ (line : Option (List ℕ)). HoldsAtWant line row old new) (sym says) ends.0, ends.1)
+  stopped_answer cause status.Done against ends = absurd ends
+  stopped_answer cause status.Usage against ends = absurd ends
+  stopped_answer cause status.ReadFault against ends = absurd ends
+
+  stopped_completes : (cause : Cause) (answer : Status) → IsAgainst row old.files.held cause → EndsInLine cause old new answer → Completes row old new answer
+  stopped_completes cause answer against ends = record {
+    answered = λ not_read not_write not_line. answered answer ends not_line;
+    refused = λ other known stands not_read not_line. refused answer ends not_line;
+    done = λ known none not_read not_write went.
+        absurd (stands_not row (contents_in old.files.held row.reads) against.contents cause (against.are.told known) against.first none);
+  } where
+    refused : (answer : Status) → EndsInLine cause old new answer → ¬ Rose old.faults new.faults → (answer ≡ status.Refused) ⊎ (answer ≡ status.NoMemory)
+    refused status.Refused ends not_line = inl refl
+    refused status.WriteFault ends not_line = absurd (not_line ends.0.rose)
+    refused status.NoMemory ends not_line = inr refl
+    refused status.Done ends not_line = absurd ends
+    refused status.Usage ends not_line = absurd ends
+    refused status.ReadFault ends not_line = absurd ends
+
+    answered : (answer : Status) → EndsInLine cause old new answer → ¬ Rose old.faults new.faults
+        → (answer ≡ status.Refused) ⊎ (answer ≡ status.Done) ⊎ (answer ≡ status.NoMemory)
+    answered status.Refused ends not_line = inl refl
+    answered status.WriteFault ends not_line = absurd (not_line ends.0.rose)
+    answered status.NoMemory ends not_line = inr (inr refl)
+    answered status.Done ends not_line = absurd ends
+    answered status.Usage ends not_line = absurd ends
+    answered status.ReadFault ends not_line = absurd ends
+
+  -- where a file couldn't be read
+  unread_answer : FailsToRead row old.files new.files → new.written ≡ old.written → IsAnswer (Asks row) old new status.ReadFault
+  unread_answer fails written = record { read = fails; nothing_written = written }
+
+  unread_completes : FailsToRead row old.files new.files → Completes row old new status.ReadFault
+  unread_completes fails = record {
+    answered = λ not_read not_write not_line. absurd (not_read fails.rose);
+    refused = λ cause known stands not_read not_line. absurd (not_read fails.rose);
+    done = λ known none not_read not_write went. absurd (not_read fails.rose);
+  }
+
+  -- where memory ran out
+  wanting_answer : new ≡ old → IsAnswer (Asks row) old new status.NoMemory
+  wanting_answer same = subst (λ (later : Seen). IsAnswer (Asks row) old later status.NoMemory) (sym same) (
+    subst (λ (line : Option (List ℕ)). HoldsAtWant line row old old) (sym says) refl,
+    record { nothing_written = refl; read_faults = refl; write_faults = refl; missed = refl; faults = refl },
+  )
+
+  wanting_completes : Completes row old new status.NoMemory
+  wanting_completes = record {
+    answered = λ not_read not_write not_line. inr (inr refl);
+    refused = λ cause known stands not_read not_line. inr refl;
+    done = λ known none not_read not_write went. inr refl;
+  }
+
+-- an answer of the whole call, and that it is complete
+pub record Answered (row : Row) (old new : Seen) (answer : Status) : Type 0 where
+  pub is : IsAnswer (Asks row) old new answer
+  pub complete : Completes row old new answer
+
+-- the work left what files tell, and then the call ended: from the moment of before
+pub answered : (row : Row) → row.says ≡ None → (old new : Seen) (between : FilesSeen) (work : Result Output Stop) (answer : Status)
+    → IsWork row old.files between work → Ends work (seen_with between old) new answer → Answered row old new answer
+answered row says old new between (Ok output) answer does ends =
+    let P : FilesSeen → Type 0 = λ files. EndsInFile output (seen_with files old) new answer in
+    let now : EndsInFile output old new answer = subst P does.stays ends in
+    record { is = made_answer row says old new output answer does.name does.made now; complete = made_completes row says old new output answer does.made now }
+answered row says old new between (Err (stop.Refused refusal)) answer does ends =
+    let P : FilesSeen → Type 0 = λ files. EndsInLine (cause_of refusal) (seen_with files old) new answer in
+    let now : EndsInLine (cause_of refusal) old new answer = subst P does.1 ends in
+    record { is = stopped_answer row says old new (cause_of refusal) answer does.0 now; complete = stopped_completes row says old new (cause_of refusal) answer does.0 now }
+answered row says old new between (Err stop.Unread) answer does ends =
+    let P : Status → Type 0 = λ a. Answered row old new a in
+    let fails : FailsToRead row old.files new.files = subst (FailsToRead row old.files) (ap (λ (s : Seen). s.files) (sym ends.1)) does.0 in
+    subst P (sym ends.0) (record { is = unread_answer row says old new fails (ap (λ (s : Seen). s.written) ends.1); complete = unread_completes row says old new fails })
+answered row says old new between (Err stop.Memory) answer does ends =
+    let P : Status → Type 0 = λ a. Answered row old new a in
+    let same : new ≡ old = ends.1 ∙ ap (λ (files : FilesSeen). seen_with files old) does in
+    subst P (sym ends.0) (record { is = wanting_answer row says old new same; complete = wanting_completes row says old new })

@@ -28,6 +28,7 @@ pub mod Declaring
 mod CoreLemmas
 pub mod RestsLemmas
 pub mod FirstSources
-mod VerdictLemmas
+mod BuiltLemmas
 mod AnswerLemmas
+mod BuildLemmas
 mod TextLemmas

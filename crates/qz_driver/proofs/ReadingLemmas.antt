@@ -197,9 +197,9 @@ pub record BlockSoFar (level : ℕ) (whole : List (List ℕ)) (parts : List Sour
   pub only : (others : List SourceStmt) (rest : List (List ℕ)) → AllFit level others → whole ≡ block_spelling others ++ rest
       → (more : List SourceStmt) × AllFit level more × (upcoming ≡ block_spelling more ++ rest)
 
-pub no_parts_yet : (level : ℕ) (whole : List (List ℕ)) → BlockSoFar level whole [] whole
-no_parts_yet level whole = record {
-  fit = record { levels = omega arith; names = refl };
+pub no_parts_yet : (level : ℕ) (whole : List (List ℕ)) → level ≤ 129 → BlockSoFar level whole [] whole
+no_parts_yet level whole within = record {
+  fit = record { levels = omega (arith, within); names = refl };
   read = refl;
   only = λ (others : List SourceStmt) (rest : List (List ℕ)) (fit : AllFit level others) (e : whole ≡ block_spelling others ++ rest). (others, fit, e);
 }

@@ -1,155 +1,194 @@
--- The table of answers: when each status comes, and what it leaves.
-use Rattle.std.specs.Prelude.{ℕ, ◌≡◌, ◌≢◌, ◌⊎◌, List, Option, Some, None, IsSome, take}
+-- The table of answers: when each status comes, and what it leaves, for every mode.
+use Rattle.std.specs.Prelude.{ℕ, ◌≡◌, ◌≢◌, ◌≤◌, ◌⊎◌, List, Option, Some, None, IsSome, map, take, slice_get}
 use Rattle.std.specs.Io.KnownBytes.{append_known}
 use Rattle.qz_io.specs.Counts.{Rose}
 use Rattle.qz_io.specs.Held.{Held, held_under}
+use Rattle.qz_io.specs.declared.files_trait.Files.{Ghosts as FilesGhosts}
+use Rattle.qz_io.specs.declared.sink_trait.Sink.{Ghosts as SinkGhosts}
 use Rattle.qz_driver.specs.declared.status.Status.{Status}
 use Rattle.qz_driver.specs.declared.status.Status.TheVariants as status
-use Rattle.qz_driver.specs.Commands.{Request, verilog_file}
-use Rattle.qz_driver.specs.Verdicts.{IsNotBuilt, IsInstant, IsBuilt, IsAgainstBytes}
-use Rattle.qz_driver.specs.Texts.{HoldsCircuit}
-use Rattle.qz_driver.specs.Causes.{Cause, Usage, Absent, NotBuilt, InstantLoop, line_of}
+use Rattle.qz_driver.specs.Causes.{Cause, Usage, line_of}
+use Rattle.qz_driver.specs.Rows.{Asked, BreaksRule, Asks, Content, Row, Read, AreContents, IsClear, StandsFirst, StandsNone, IsAgainst, IsMade, contents_in}
 
--- what the files and the sink tell at a moment
-pub record Seen : Type 0 where
+-- what the files tell at a moment
+pub record FilesSeen : Type 0 where
   pub held : Option Held
   pub read_faults : ℕ
   pub write_faults : ℕ
   pub missed : Option (List ℕ)
+
+-- what the files and the sink tell at a moment
+pub record Seen : Type 0 where
+  pub files : FilesSeen
   pub written : Option (List ℕ)
   pub faults : ℕ
 
-abbrev pub seen : Option Held → ℕ → ℕ → Option (List ℕ) → Option (List ℕ) → ℕ → Seen
-seen held read_faults write_faults missed written faults = record {
-  held = held;
-  read_faults = read_faults;
-  write_faults = write_faults;
-  missed = missed;
-  written = written;
-  faults = faults;
+abbrev pub files_seen : {F : Type 0} → FilesGhosts F → F → FilesSeen
+files_seen ghosts files = record {
+  held = ghosts.held files;
+  read_faults = ghosts.read_faults files;
+  write_faults = ghosts.write_faults files;
+  missed = ghosts.missed files;
 }
 
--- the file isn't held, as far as what is held is told; or it is
-abbrev pub IsMissing : Request → Seen → Type 0
-IsMissing asked old = IsSome old.held → held_under old.held asked.file ≡ None
-
-abbrev pub IsThere : Request → Seen → Type 0
-IsThere asked old = IsSome old.held → held_under old.held asked.file ≢ None
-
--- a fact on the bytes of the file, as far as what is held is told
-pub record OfFile (asked : Request) (old : Seen) (P : List ℕ → Type 0) : Type 0 where
-  pub held : (bytes : List ℕ) → held_under old.held asked.file ≡ Some bytes → P bytes
-
--- a cause that stands against the request: the file is absent where it isn't held, and the other causes are
--- those of the bytes that are held
-abbrev pub CanStand : Request → Seen → Cause → Type 0
-CanStand asked old Usage = ⊥
-CanStand asked old (Absent file) = (file ≡ asked.file) × IsMissing asked old
-CanStand asked old (NotBuilt file) = (file ≡ asked.file) × IsThere asked old × OfFile asked old (λ bytes. IsNotBuilt asked.name bytes)
-CanStand asked old (InstantLoop number who) = IsThere asked old × OfFile asked old (λ bytes. IsInstant asked.name bytes number who)
-
--- what words and held bytes have against them
-abbrev pub IsAgainst : Option Request → Seen → Cause → Type 0
-IsAgainst None old cause = cause ≡ Usage
-IsAgainst (Some asked) old cause = CanStand asked old cause
+abbrev pub seen : {F O : Type 0} → FilesGhosts F → SinkGhosts O → F → O → Seen
+seen files_ghosts sink_ghosts files out = record {
+  files = files_seen files_ghosts files;
+  written = sink_ghosts.written out;
+  faults = sink_ghosts.faults out;
+}
 
 -- nothing that is held changed; nothing was written
 abbrev pub KeepsHeld : Seen → Seen → Type 0
-KeepsHeld old new = new.held ≡ old.held
+KeepsHeld old new = new.files.held ≡ old.files.held
 
 abbrev pub WritesNothing : Seen → Seen → Type 0
 WritesNothing old new = new.written ≡ old.written
 
--- one line was written
-abbrev pub WritesLine : Seen → Seen → Cause → Type 0
-WritesLine old new cause = new.written ≡ append_known old.written (line_of cause)
+-- the bytes are held under the name, and what is held under another is what was
+pub record Puts (name bytes : List ℕ) (old new : Seen) : Type 0 where
+  pub put : IsSome old.files.held → held_under new.files.held name ≡ Some bytes
+  pub others : (other : List ℕ) → other ≢ name → held_under new.files.held other ≡ held_under old.files.held other
 
--- only what is held under this name may have changed
-abbrev pub KeepsOthers : List ℕ → Seen → Seen → Type 0
-KeepsOthers name old new = (other : List ℕ) → other ≢ name → held_under new.held other ≡ held_under old.held other
-
--- the words break a rule, and the usage line was written
-pub record IsUsage (asked : Option Request) (old new : Seen) : Type 0 where
-  pub words : asked ≡ None
-  pub line : WritesLine old new Usage
-  pub held : KeepsHeld old new
-
--- a cause stands, and its line was written
-pub record IsRefused (asked : Option Request) (old new : Seen) : Type 0 where
-  pub request : Request
-  pub words : asked ≡ Some request
-  pub cause : Cause
-  pub stands : CanStand request old cause
-  pub line : WritesLine old new cause
-  pub held : KeepsHeld old new
-
--- the file's `get` failed, and its name is kept
-pub record IsReadFault (asked : Option Request) (old new : Seen) : Type 0 where
-  pub request : Request
-  pub words : asked ≡ Some request
-  pub rose : Rose old.read_faults new.read_faults
-  pub missed : new.missed ≡ Some request.file
-  pub nothing_written : WritesNothing old new
-  pub held : KeepsHeld old new
-
--- the put failed: what is held under the one name is open
-pub record IsPutFault (asked : Option Request) (old new : Seen) : Type 0 where
-  pub request : Request
-  pub words : asked ≡ Some request
-  pub there : IsThere request old
-  pub built : OfFile request old (λ bytes. IsBuilt request.name bytes)
-  pub rose : Rose old.write_faults new.write_faults
-  pub nothing_written : WritesNothing old new
-  pub others : KeepsOthers (verilog_file request.name) old new
-
--- the one line couldn't be written whole
-pub record IsLineFault (asked : Option Request) (old new : Seen) : Type 0 where
-  pub cause : Cause
-  pub stands : IsAgainst asked old cause
+-- writing the line failed: some first part of it was written
+pub record FailsToWrite (line : List ℕ) (old new : Seen) : Type 0 where
   pub rose : Rose old.faults new.faults
   pub count : ℕ
-  pub prefix : new.written ≡ append_known old.written (take count (line_of cause))
+  pub prefix : new.written ≡ append_known old.written (take count line)
+
+-- one line was written, and nothing that is held changed
+pub record SaysLine (cause : Cause) (old new : Seen) : Type 0 where
+  pub line : new.written ≡ append_known old.written (line_of cause)
   pub held : KeepsHeld old new
 
-abbrev pub IsWriteFault : Option Request → Seen → Seen → Type 0
-IsWriteFault asked old new = IsPutFault asked old new ⊎ IsLineFault asked old new
-
--- memory ran out: nothing is changed or written
-pub record IsNoMemory (old new : Seen) : Type 0 where
+-- no count rose and nothing was written
+pub record LosesNothing (old new : Seen) : Type 0 where
   pub nothing_written : WritesNothing old new
+  pub read_faults : new.files.read_faults ≡ old.files.read_faults
+  pub write_faults : new.files.write_faults ≡ old.files.write_faults
+  pub missed : new.files.missed ≡ old.files.missed
+  pub faults : new.faults ≡ old.faults
+
+-- what stands against words and held bytes
+abbrev pub Stands : Asked → Seen → Cause → Type 0
+Stands BreaksRule old cause = cause ≡ Usage
+Stands (Asks row) old cause = IsAgainst row old.files.held cause
+
+-- the words break a rule, and the usage line was written
+abbrev pub IsUsage : Asked → Seen → Seen → Type 0
+IsUsage BreaksRule old new = SaysLine Usage old new
+IsUsage (Asks row) old new = ⊥
+
+-- a cause stands, and its line was written
+pub record Refuses (row : Row) (old new : Seen) : Type 0 where
+  pub cause : Cause
+  pub stands : IsAgainst row old.files.held cause
+  pub says : SaysLine cause old new
+
+abbrev pub IsRefused : Asked → Seen → Seen → Type 0
+IsRefused BreaksRule old new = ⊥
+IsRefused (Asks row) old new = Refuses row old new
+
+-- the `get` of a file failed and its name is kept, and no cause stands against the files before it
+pub record FailsToRead (row : Row) (old new : FilesSeen) : Type 0 where
+  pub number : ℕ
+  pub name : List ℕ
+  pub named : slice_get (map (λ (read : Read). read.name) row.reads) number ≡ Some name
+  pub missed : new.missed ≡ Some name
+  pub rose : Rose old.read_faults new.read_faults
+  pub contents : List Content
+  pub are : AreContents row old.held contents
+  pub clear : (count : ℕ) → count ≤ number → IsClear row (take count contents)
+  pub held : new.held ≡ old.held
+
+pub record IsUnread (row : Row) (old new : Seen) : Type 0 where
+  pub read : FailsToRead row old.files new.files
+  pub nothing_written : WritesNothing old new
+
+abbrev pub IsReadFault : Asked → Seen → Seen → Type 0
+IsReadFault BreaksRule old new = ⊥
+IsReadFault (Asks row) old new = IsUnread row old new
+
+-- the put failed: what is held under the one name is open
+pub record FailsToPut (row : Row) (old new : Seen) : Type 0 where
+  pub bytes : List ℕ
+  pub made : IsMade row old.files.held bytes
+  pub rose : Rose old.files.write_faults new.files.write_faults
+  pub nothing_written : WritesNothing old new
+  pub others : (other : List ℕ) → other ≢ row.puts → held_under new.files.held other ≡ held_under old.files.held other
+
+-- the line after the put couldn't be written whole
+pub record FailsToSay (row : Row) (old new : Seen) : Type 0 where
+  pub line : List ℕ
+  pub says : row.says ≡ Some line
+  pub bytes : List ℕ
+  pub made : IsMade row old.files.held bytes
+  pub puts : Puts row.puts bytes old new
+  pub writes : FailsToWrite line old new
+
+-- the line of a cause couldn't be written whole
+pub record IsLineFault (asked : Asked) (old new : Seen) : Type 0 where
+  pub cause : Cause
+  pub stands : Stands asked old cause
+  pub writes : FailsToWrite (line_of cause) old new
   pub held : KeepsHeld old new
+
+abbrev pub IsWriteFault : Asked → Seen → Seen → Type 0
+IsWriteFault BreaksRule old new = IsLineFault BreaksRule old new
+IsWriteFault (Asks row) old new = FailsToPut row old new ⊎ FailsToSay row old new ⊎ IsLineFault (Asks row) old new
+
+-- what is held where memory ran out: what was, or where the row writes a line at its end, perhaps the file that was put
+abbrev pub HoldsAtWant : Option (List ℕ) → Row → Seen → Seen → Type 0
+HoldsAtWant None row old new = KeepsHeld old new
+HoldsAtWant (Some line) row old new = KeepsHeld old new ⊎ ((bytes : List ℕ) × IsMade row old.files.held bytes × Puts row.puts bytes old new)
+
+-- memory ran out
+abbrev pub IsNoMemory : Asked → Seen → Seen → Type 0
+IsNoMemory BreaksRule old new = KeepsHeld old new × LosesNothing old new
+IsNoMemory (Asks row) old new = HoldsAtWant row.says row old new × LosesNothing old new
+
+-- what is written at the end: the row's line, if it has one
+abbrev pub SaysAtEnd : Option (List ℕ) → Seen → Seen → Type 0
+SaysAtEnd None old new = WritesNothing old new
+SaysAtEnd (Some line) old new = new.written ≡ append_known old.written line
 
 -- the file was put
-pub record IsDone (asked : Option Request) (old new : Seen) : Type 0 where
-  pub request : Request
-  pub words : asked ≡ Some request
-  pub there : IsThere request old
-  pub built : OfFile request old (λ bytes. IsBuilt request.name bytes)
-  pub does : OfFile request old (λ bytes. HoldsCircuit request.name bytes (held_under new.held (verilog_file request.name)))
-  pub nothing_written : WritesNothing old new
-  pub others : KeepsOthers (verilog_file request.name) old new
+pub record IsPut (row : Row) (old new : Seen) : Type 0 where
+  pub bytes : List ℕ
+  pub made : IsMade row old.files.held bytes
+  pub puts : Puts row.puts bytes old new
+  pub says : SaysAtEnd row.says old new
 
--- where no count rose, what the words and the held bytes alone decide, or want of memory
-pub record IsComplete (asked : Option Request) (old new : Seen) (result : Status) : Type 0 where
-  pub usage : asked ≡ None → ¬ Rose old.faults new.faults → (result ≡ status.Usage) ⊎ (result ≡ status.NoMemory)
-  pub absent : (request : Request) → asked ≡ Some request → IsSome old.held → held_under old.held request.file ≡ None →
-      ¬ Rose old.read_faults new.read_faults → ¬ Rose old.faults new.faults →
-      (result ≡ status.Refused) ⊎ (result ≡ status.NoMemory)
-  pub there : (request : Request) → asked ≡ Some request → IsSome old.held → held_under old.held request.file ≢ None →
-      ¬ Rose old.read_faults new.read_faults → ¬ Rose old.write_faults new.write_faults → ¬ Rose old.faults new.faults →
-      (result ≡ status.Refused) ⊎ (result ≡ status.Done) ⊎ (result ≡ status.NoMemory)
-  pub refused : (request : Request) (bytes : List ℕ) → asked ≡ Some request → held_under old.held request.file ≡ Some bytes
-      → IsAgainstBytes request.name bytes → ¬ Rose old.read_faults new.read_faults → ¬ Rose old.faults new.faults
+abbrev pub IsDone : Asked → Seen → Seen → Type 0
+IsDone BreaksRule old new = ⊥
+IsDone (Asks row) old new = IsPut row old new
+
+-- one fact on the answer for each status
+abbrev pub IsAnswer : Asked → Seen → Seen → Status → Type 0
+IsAnswer asked old new status.Done = IsDone asked old new
+IsAnswer asked old new status.Refused = IsRefused asked old new
+IsAnswer asked old new status.Usage = IsUsage asked old new
+IsAnswer asked old new status.ReadFault = IsReadFault asked old new
+IsAnswer asked old new status.WriteFault = IsWriteFault asked old new
+IsAnswer asked old new status.NoMemory = IsNoMemory asked old new
+
+-- a line that the row writes at its end, if it does, was written
+abbrev pub LineWentOut : Option (List ℕ) → Seen → Seen → Type 0
+LineWentOut None old new = Unit {0}
+LineWentOut (Some line) old new = ¬ Rose old.faults new.faults
+
+-- where no count rose, what the held bytes alone decide, or want of memory
+pub record Completes (row : Row) (old new : Seen) (result : Status) : Type 0 where
+  pub answered : ¬ Rose old.files.read_faults new.files.read_faults → ¬ Rose old.files.write_faults new.files.write_faults
+      → ¬ Rose old.faults new.faults → (result ≡ status.Refused) ⊎ (result ≡ status.Done) ⊎ (result ≡ status.NoMemory)
+  pub refused : (cause : Cause) → IsSome old.files.held → StandsFirst row (contents_in old.files.held row.reads) cause
+      → ¬ Rose old.files.read_faults new.files.read_faults → ¬ Rose old.faults new.faults
       → (result ≡ status.Refused) ⊎ (result ≡ status.NoMemory)
-  pub done : (request : Request) (bytes : List ℕ) → asked ≡ Some request → held_under old.held request.file ≡ Some bytes
-      → IsBuilt request.name bytes → ¬ Rose old.read_faults new.read_faults → ¬ Rose old.write_faults new.write_faults
-      → (result ≡ status.Done) ⊎ (result ≡ status.NoMemory)
+  pub done : IsSome old.files.held → StandsNone row (contents_in old.files.held row.reads)
+      → ¬ Rose old.files.read_faults new.files.read_faults → ¬ Rose old.files.write_faults new.files.write_faults
+      → LineWentOut row.says old new → (result ≡ status.Done) ⊎ (result ≡ status.NoMemory)
 
--- what putting the file answers: a count rose only where it failed, and want of memory leaves what is held
-abbrev pub IsPutAnswer : Status → ℕ → ℕ → Option Held → Option Held → Type 0
-IsPutAnswer status.Done before after old new = Unit {0}
-IsPutAnswer status.WriteFault before after old new = Rose before after
-IsPutAnswer status.NoMemory before after old new = new ≡ old
-IsPutAnswer status.Refused before after old new = ⊥
-IsPutAnswer status.Usage before after old new = ⊥
-IsPutAnswer status.ReadFault before after old new = ⊥
+-- the same of words that break a rule
+abbrev pub IsComplete : Asked → Seen → Seen → Status → Type 0
+IsComplete BreaksRule old new result = ¬ Rose old.faults new.faults → (result ≡ status.Usage) ⊎ (result ≡ status.NoMemory)
+IsComplete (Asks row) old new result = Completes row old new result

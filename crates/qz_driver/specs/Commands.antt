@@ -1,11 +1,11 @@
 -- What the words of the command line ask for.
-use Rattle.std.specs.Prelude.{ℕ, Bool, false, ◌==◌, ◌||◌, ◌++◌, List, [], ◌∷◌, map, String, string_bytes, bytes_eq, Option, Some, None, codes, if◌then◌else◌}
+use Rattle.std.specs.Prelude.{ℕ, Bool, false, ◌==◌, ◌||◌, List, [], ◌∷◌, map, String, string_bytes, bytes_eq, Option, Some, None, codes, if◌then◌else◌}
 use Rattle.std.specs.declared.alloc.Global.{Global}
 
--- the module's name and the file, as bytes
-pub record Request : Type 0 where
-  pub name : List ℕ
-  pub file : List ℕ
+-- a mode with its words, as bytes
+pub data Request : Type 0 where
+  -- the module's name and the file
+  Build : List ℕ → List ℕ → Request
 
 -- whether a word begins with `-`
 abbrev pub is_option : List ℕ → Bool
@@ -19,7 +19,7 @@ request_of (mode ∷ []) = None
 request_of (mode ∷ name ∷ []) = None
 request_of (mode ∷ name ∷ file ∷ []) =
     if bytes_eq mode (codes "build")
-    then (if is_option name || is_option file then None else Some (record { name = name; file = file }))
+    then (if is_option name || is_option file then None else Some (Build name file))
     else None
 request_of (mode ∷ name ∷ file ∷ more ∷ others) = None
 
@@ -27,9 +27,5 @@ abbrev pub texts_of : List (String Global) → List (List ℕ)
 texts_of words = map (λ (word : String Global). string_bytes word) words
 
 -- what these words ask for
-abbrev pub asked : List (String Global) → Option Request
-asked words = request_of (texts_of words)
-
--- the name of the file that a build puts
-abbrev pub verilog_file : List ℕ → List ℕ
-verilog_file name = name ++ codes ".v"
+abbrev pub requested : List (String Global) → Option Request
+requested words = request_of (texts_of words)

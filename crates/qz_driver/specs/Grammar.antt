@@ -1,5 +1,5 @@
 -- How a source of the first language is spelled: the texts of its tokens, in order.
-use Rattle.std.specs.Prelude.{ℕ, ◌≡◌, ◌+◌, ◌-◌, ◌≤◌, Bool, true, List, [], ◌∷◌, ◌++◌, length, max, map, codes, IsTrue, Contains, Ok}
+use Rattle.std.specs.Prelude.{ℕ, ◌≡◌, ◌+◌, ◌≤◌, Bool, true, List, [], ◌∷◌, ◌++◌, length, max, map, codes, IsTrue, Contains, Ok}
 use Rattle.std.specs.List.{flat_map, list_all}
 use Rattle.std.specs.Str.{chars, IsAscii}
 use Rattle.qz_values.specs.declared.Ty.TheVariants as ty
@@ -57,12 +57,12 @@ has_names = fold-SourceStmt Bool node_has_names
 
 -- a statement whose own level is this one, with no level above 128
 pub record Fits (level : ℕ) (s : SourceStmt) : Type 0 where
-  pub levels : levels s ≤ 129 - level
+  pub levels : level + levels s ≤ 129
   pub names : IsTrue (has_names s)
 
 -- some statements whose own level is this one
 pub record AllFit (level : ℕ) (parts : List SourceStmt) : Type 0 where
-  pub levels : most (map levels parts) ≤ 129 - level
+  pub levels : level + most (map levels parts) ≤ 129
   pub names : IsTrue (list_all (λ part. part) (map has_names parts))
 
 -- the formal that is an output event of this name

@@ -1,11 +1,9 @@
 -- What is put: the text of a Verilog module that does the program of the file's bytes.
-use Rattle.std.specs.Prelude.{ℕ, ◌≡◌, List, Option, Some}
-use Rattle.qz_io.specs.declared.answers.Got.{Got}
-use Rattle.qz_io.specs.declared.answers.Got.TheVariants as got
+use Rattle.std.specs.Prelude.{ℕ, ◌≡◌, List}
 use Rattle.qz_syntax.specs.declared.modules.Module.{Module}
 use Rattle.qz_meaning.specs.Programs.{program_of}
 use Rattle.qz_driver.specs.declared.verilog.VModule.{VModule}
-use Rattle.qz_driver.specs.Verdicts.{IsModuleOf}
+use Rattle.qz_driver.specs.Built.{IsModuleOf}
 use Rattle.qz_driver.specs.Verilog.{IsValid}
 use Rattle.qz_driver.specs.VerilogText.{text_of}
 use Rattle.qz_driver.specs.Definite.{IsAlwaysDefinite}
@@ -24,15 +22,3 @@ pub record HasCircuit (name bytes text : List ℕ) : Type 0 where
   pub program : Module
   pub is : IsModuleOf name bytes program
   pub made : IsTextOfProgram program text
-
--- the same, of what was found under the file's name
-abbrev pub TextFrom : List ℕ → Got → List ℕ → Type 0
-TextFrom name (got.Bytes bytes) text = HasCircuit name bytes.items text
-TextFrom name got.Absent text = ⊥
-TextFrom name got.TooLong text = ⊥
-
--- what is held under a name is the text of such a circuit
-pub record HoldsCircuit (name bytes : List ℕ) (held : Option (List ℕ)) : Type 0 where
-  pub text : List ℕ
-  pub put : held ≡ Some text
-  pub circuit : HasCircuit name bytes text

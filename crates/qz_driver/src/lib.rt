@@ -11,6 +11,7 @@ mod ends;
 pub mod first_runs;
 mod formal_numbers;
 mod instant_loop;
+mod limits;
 #[cfg(test)]
 mod programs;
 mod reader;
@@ -26,6 +27,8 @@ pub mod verilog_laws;
 mod vtext;
 mod wires;
 mod words;
+mod work;
 
 pub use call::quartzc;
+pub use reader::{one_source, reserved_words_agree};
 pub use status::Status;

@@ -1,4 +1,4 @@
-//! Ten programs and one of 1,000 pauses: the texts that are put for them, and what they drive in
+//! Eleven programs and one of 1,000 pauses: the texts that are put for them, and what they drive in
 //! each step, both worked by hand.
 
 ghost use Rattle.std.specs.Prelude.{◌≡◌, ◌≤◌, ◌<◌};
@@ -31,7 +31,7 @@ struct Output<'t> {
 const NEVER: &str = "00000000000000000000";
 
 /// Sources, each with its circuit.
-static PROGRAMS: [(&str, Circuit<'static>); 10] = [
+static PROGRAMS: [(&str, Circuit<'static>); 11] = [
     // Nothing happens, in the first step and later.
     (
         "module T(event !o){ }",
@@ -69,6 +69,19 @@ static PROGRAMS: [(&str, Circuit<'static>); 10] = [
                 steps: "00010000000000000000",
             }],
             nexts: &["w_0", "r_0", "r_1", "w_1"],
+        },
+    ),
+    // A block ends in the step in which the last of it does.
+    (
+        "module T(event !o){ { pause; nothing; } emit o; }",
+        Circuit {
+            wires: &["~r_1", "1'b1", "1'b0"],
+            outputs: &[Output {
+                name: "o",
+                net: "r_0",
+                steps: "01000000000000000000",
+            }],
+            nexts: &["w_0", "w_1"],
         },
     ),
     // The inner loop is never left, so the outer one begins once.
@@ -347,7 +360,7 @@ fn assert_put(
 }
 
 #[test]
-fn ten_programs(rt: HostRuntime) -> Result<(), Fail> {
+fn eleven_programs(rt: HostRuntime) -> Result<(), Fail> {
     for (source, circuit) in &PROGRAMS {
         assert_put(&rt, rt.alloc(), source, circuit)?;
         circuit.assert_steps(&rt, rt.alloc(), 20)?;

@@ -4,23 +4,19 @@ ghost use Rattle.std.specs.Prelude.{ℕ, List, ◌≡◌, ◌≢◌, ◌≤◌, 
 ghost use Rattle.std.specs.Bool.{OnTrue, OnFalse};
 ghost use Rattle.std.specs.List.{list_all};
 ghost use Rattle.std.specs.Str.{chars};
-ghost use Rattle.qz_syntax.specs.Spelling.{is_name};
+ghost use Rattle.qz_lexer.specs.Words.{is_reserved as lexer_reserves};
+ghost use Rattle.qz_syntax.specs.Spelling.{is_name, is_reserved};
 ghost use Rattle.qz_driver.specs.Reading.{texts, upcoming, OnNotBuilt, NoText, NoName, NoStart, word_of, NoStatement, NoBlock, NoFormal, NoFormals, NoModule, IsNoSource};
 ghost use Rattle.qz_driver.specs.declared.source.SourceModule.{SourceModule};
 ghost use Rattle.qz_driver.specs.Grammar.{spelling, block_spelling, Fits, AllFit, IsOutput, AreOutputs, formal_spelling, formals_spelling, FitsModule, module_spelling, IsSource};
 
+use crate::limits::{MAX_LEVEL, MAX_SOURCE};
 use crate::source::{SourceModule, SourceStmt};
 use qz_lexer::{LexFault, Token, lex};
 use qz_syntax::{Class, Dir, Formal, Name};
 use qz_values::Ty;
 use sqlite_items::{Boxed, Items};
 use std::alloc::{AllocError, AllocFailed, Global};
-
-/// The most bytes that a source has.
-pub const MAX_BYTES: u64 = 1_048_576;
-
-/// The most levels of nesting; the module's block has level 1.
-pub const MAX_LEVEL: u32 = 128;
 
 /// Why no source is read.
 #[derive(Clone, Copy, Debug, PartialEq, Eq)]
@@ -163,6 +159,11 @@ pub fn one_source()
     ensures { (bytes : List ℕ) (m n : SourceModule) → IsSource bytes m → IsSource bytes n → m ≡ n }
 {}
 
+/// The words that the lexer sets apart are those that are no names.
+pub fn reserved_words_agree()
+    ensures { (characters : List ℕ) → lexer_reserves characters ≡ is_reserved characters }
+{}
+
 /// The module that all the tokens spell.
 fn whole_module(alloc: Global, tokens: &[Token<'_>]) -> Result<SourceModule, NoSource>
     ensures read { IfOk result (λ m. texts tokens.now ≡ module_spelling m) }
@@ -268,6 +269,7 @@ fn statements(
     cursor: &mut Cursor<'_, '_>,
     level: u32,
 ) -> Result<Items<SourceStmt>, NoSource>
+    requires { level ≤ 129 }
     ensures read { IfOk result (λ parts. upcoming cursor.old ≡ block_spelling parts ++ upcoming cursor.new) }
     ensures fits { IfOk result (AllFit level) }
     ensures none { IfErr result (λ fault. OnNotBuilt fault (NoBlock level (upcoming cursor.old))) }

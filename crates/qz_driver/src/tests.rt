@@ -154,6 +154,7 @@ fn answers(rt: HostRuntime) -> Result<(), Fail> {
         refused("module T(event ?a, !o){ emit o; }", "t.qz: not built yet\n"),
         usage(&["build", "T"]),
         usage(&["build", "-x", "t.qz"]),
+        usage(&["make", "T", "t.qz"]),
         usage(&[]),
         Row {
             sink_fails: Some(0),
@@ -169,10 +170,12 @@ fn answers(rt: HostRuntime) -> Result<(), Fail> {
 }
 
 /// Texts that are refused in `build T t.qz`, and the lines.
-static REFUSED: [(&str, &str); 10] = [
+static REFUSED: [(&str, &str); 12] = [
     ("", "t.qz: not built yet\n"),
     ("module T(event !o){ emit o; } }", "t.qz: not built yet\n"),
     ("module T(event !o){ emit x; }", "t.qz: not built yet\n"),
+    ("module T(event !o){ emit pause; }", "t.qz: not built yet\n"),
+    ("module T(event !o){ halt; }", "t.qz: not built yet\n"),
     (
         "module T(event !o, event !o){ emit o; }",
         "t.qz: not built yet\n",

@@ -13,18 +13,13 @@ ghost use Rattle.qz_driver.specs.Reading.{OnNotBuilt};
 ghost use Rattle.qz_driver.specs.Typing.{IsCore, AreCores, NoCore, NoCores};
 
 use crate::formal_numbers::FormalNumbers;
+use crate::limits::{MAX_FORMALS, MAX_UNITS};
 use crate::reader::NoSource;
 use crate::source::{SourceModule, SourceStmt};
 use qz_syntax::{Expr, Formal, Module, Name, Stmt, Var, size};
 use qz_values::Value;
 use sqlite_items::{Boxed, Items};
 use std::alloc::Global;
-
-/// The most formals of a module.
-pub const MAX_FORMALS: usize = 256;
-
-/// The largest size of a module, in units.
-pub const MAX_UNITS: u64 = 100_000;
 
 /// How many places and loops stand before a statement in tree order.
 #[derive(Drop)]

@@ -1,7 +1,7 @@
 //! The words of the command line.
 
 ghost use Rattle.std.specs.Prelude.{◌≡◌, ◌↔◌, IsTrue, MatchOption, None, Some};
-ghost use Rattle.qz_driver.specs.Commands.{asked, is_option};
+ghost use Rattle.qz_driver.specs.Commands.{requested, is_option, Build as BuildRequest};
 
 /// What the words ask for: to build the module of this name from this file.
 #[derive(Clone, Copy, Debug)]
@@ -13,8 +13,8 @@ pub struct Build<'w> {
 /// What the words ask for, or none where they break a rule: they are `build`, a name and a file, and
 /// none begins with `-`.
 pub fn command(words: &[String]) -> Option<Build<'_>>
-    ensures { MatchOption result (asked words.now ≡ None)
-        (λ build. asked words.now ≡ Some (record { name = build.name.now; file = build.file.now })) }
+    ensures { MatchOption result (requested words.now ≡ None)
+        (λ build. requested words.now ≡ Some (BuildRequest build.name.now build.file.now)) }
 {
     match words {
         [mode, name, file] => {

@@ -35,7 +35,7 @@ mod values;
 mod words;
 
 pub use faults::LexFault;
-pub use lexer::lex;
+pub use lexer::{lex, one_outcome};
 pub use tokens::{Token, TokenKind};
 
 #[cfg(test)]

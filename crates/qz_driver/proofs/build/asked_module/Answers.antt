@@ -1,5 +1,5 @@
 use Rattle.qz_driver.proofs.TextLemmas.{first_of_typed}
-use Rattle.qz_driver.proofs.VerdictLemmas.{not_the_module, no_source_not_built}
+use Rattle.qz_driver.proofs.BuiltLemmas.{not_the_module, no_source_not_built}
 use Rattle.qz_driver.proofs.build.asked_module.Goals as goal
 
 pub returns-in-Ok-clause-none : goal.returns-in-Ok-clause-none

@@ -1,6 +1,6 @@
 -- What bytes are against a request: no text that is built yet, a module with a loop that may end at once, or
 -- one that is built.
-use Rattle.std.specs.Prelude.{ℕ, ◌≡◌, ◌⊎◌, List, [], Option, Some, None, slice_get, encode_utf8_all}
+use Rattle.std.specs.Prelude.{ℕ, ◌≡◌, List, [], Option, Some, None, slice_get, encode_utf8_all}
 use Rattle.qz_syntax.specs.Endings.{instant_loops}
 use Rattle.qz_syntax.specs.declared.modules.Module.{Module}
 use Rattle.qz_driver.specs.declared.source.SourceModule.{SourceModule}
@@ -29,10 +29,6 @@ pub record IsInstant (name bytes : List ℕ) (number : ℕ) (who : List ℕ) : T
   pub asked : IsAsked name source
   pub loop : instant_loop_of source ≡ Some number
   pub named : who ≡ encode_utf8_all source.name
-
--- a cause stands against them
-abbrev pub IsAgainstBytes : List ℕ → List ℕ → Type 0
-IsAgainstBytes name bytes = IsNotBuilt name bytes ⊎ ((number : ℕ) × (who : List ℕ) × IsInstant name bytes number who)
 
 -- they are one without such a loop
 pub record IsBuilt (name bytes : List ℕ) : Type 0 where

@@ -1,4 +1,4 @@
--- Which verdict the bytes have: one alone.
+-- Which of these the bytes are: one alone.
 use Rattle.std.proofs.Common.{◌≡◌, ℕ, ◌<◌, List, length, Some, None, Result, sym, ap, subst, ◌∙◌, arith}
 use Rattle.std.proofs.lemmas.Result.{IfErr-weaker}
 use Rattle.std.specs.Result.{IfErr}
@@ -8,7 +8,7 @@ use Rattle.qz_driver.specs.declared.reader.NoSource.{NoSource}
 use Rattle.qz_driver.specs.Grammar.{IsSource}
 use Rattle.qz_driver.specs.Reading.{OnNotBuilt, IsNoSource}
 use Rattle.qz_driver.specs.CoreTree.{IsAsked}
-use Rattle.qz_driver.specs.Verdicts.{instant_loop_of, IsNotBuilt, IsInstant, IsBuilt}
+use Rattle.qz_driver.specs.Built.{instant_loop_of, IsNotBuilt, IsInstant, IsBuilt}
 use Rattle.qz_driver.proofs.ReadingLemmas.{on_not_built}
 use Rattle.qz_driver.proofs.SourceLemmas.{same_source}
 
