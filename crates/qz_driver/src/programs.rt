@@ -194,14 +194,7 @@ static PROGRAMS: [(&str, Circuit<'static>); 11] = [
     (
         "module T(event !n, event !o){ emit o; emit o; pause; emit o; emit o; }",
         Circuit {
-            wires: &[
-                "~r_1",
-                "1'b1",
-                "1'b0",
-                "w_0 | w_0",
-                "w_3 | r_0",
-                "w_4 | r_0",
-            ],
+            wires: &["~r_1", "1'b1", "1'b0", "w_0 | r_0", "w_3 | r_0"],
             outputs: &[
                 Output {
                     name: "n",
@@ -210,7 +203,7 @@ static PROGRAMS: [(&str, Circuit<'static>); 11] = [
                 },
                 Output {
                     name: "o",
-                    net: "w_5",
+                    net: "w_4",
                     steps: "11000000000000000000",
                 },
             ],

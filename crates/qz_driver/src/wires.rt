@@ -86,6 +86,9 @@ impl Wires {
             Has registers self.old a →
             Has registers self.old b → Declares registers self.new net) }
     {
+        if a == b {
+            return Ok(a);
+        }
         match self.constant_of(a) {
             Some(true) => Ok(b),
             Some(false) => Ok(a),
@@ -104,6 +107,9 @@ impl Wires {
             Has registers self.old a →
             Has registers self.old b → Declares registers self.new net) }
     {
+        if a == b {
+            return Ok(a);
+        }
         match self.constant_of(a) {
             Some(true) => Ok(a),
             Some(false) => Ok(b),
