@@ -21,20 +21,21 @@ use Rattle.qz_syntax.specs.declared.places.Place.TheVariants as place
 use Rattle.qz_syntax.specs.declared.places.Store.{Store}
 use Rattle.qz_syntax.specs.declared.statements.Stmt.{Stmt}
 use Rattle.qz_syntax.proofs.Equations.{fold-Nothing, fold-Assign, fold-Pause, fold-Seq, fold-Loop}
+use Rattle.qz_syntax.specs.Numbers.{contains}
 use Rattle.qz_meaning.specs.Instances.{formal_instance}
-use Rattle.qz_meaning.specs.Scenes.{contains, new_store}
-use Rattle.qz_meaning.specs.Behaviors.{Behavior, Met}
+use Rattle.qz_meaning.specs.Scenes.{default_store}
+use Rattle.qz_meaning.specs.Layouts.{Met}
 use Rattle.qz_meaning.specs.Programs.{Program, formals_of, own_delayed, delays, program_of}
-use Rattle.qz_meaning.specs.Settling.{Configuration, Environment, scene_of, step_writes, step_met, input_of, met_as}
+use Rattle.qz_meaning.specs.Configurations.{Configuration, is_of_type, are_inputs, IsRow}
+use Rattle.qz_meaning.specs.Settling.{Environment, step_writes, step_met, input_of, met_as}
 use Rattle.qz_meaning.specs.Rounds.{now_or_unknown, later_or_unknown, first_round, next_round, AgreeAt, IsKnown, IsKnownOrAbsent, IsPlainAt, IsDefinite}
-use Rattle.qz_meaning.specs.Valuations.{is_of_type, is_kept_by, is_store_of, are_output_stores, are_inputs, is_started, rests_at, IsPermittedPlace}
+use Rattle.qz_meaning.specs.Valuations.{is_kept_by, is_store_of, are_output_stores, is_started, rests_at, IsPermittedPlace}
+use Rattle.qz_meaning.specs.RunLaws.{IsAlwaysDefinite}
 use Rattle.qz_driver.specs.Mirror.{mirror_of, is_driven}
 use Rattle.qz_driver.specs.FirstLanguage.{is_first, IsFirst}
 use Rattle.qz_driver.specs.BitRuns.{BitState, driven_bits}
-use Rattle.qz_driver.specs.Definite.{IsAlwaysDefinite}
 use Rattle.qz_driver.proofs.FirstInduction.{first_induction}
-use Rattle.qz_driver.proofs.SameWalks.{same_behavior}
-use Rattle.qz_driver.proofs.FirstSteps.{output_met, new_stores, inputs_of, all-map, class_is, type_is, IsPlace, Follows, initial_follows, met_is, settles, undelayed}
+use Rattle.qz_driver.proofs.FirstSteps.{output_met, new_stores, inputs_of, all-map, class_is, type_is, IsPlace, Follows, is_valuation, initial_follows, met_is, settles, undelayed}
 
 -- each member of a list, from those that it contains
 members : (ns : List ℕ) (P : ℕ → Type 0) → ((n : ℕ) → contains ns n ≡ true → P n) → AllByRecursion P ns
@@ -90,7 +91,7 @@ module _ (m : Module) (first : IsFirst m) where
   outputs = formals_of dir.Out m
 
   -- the one store that an output can have
-  one_store : (n : ℕ) (store : Store) → is_store_of program (var.Formal n) store ≡ true → store ≡ new_store ty.Bool
+  one_store : (n : ℕ) (store : Store) → is_store_of program (var.Formal n) store ≡ true → store ≡ default_store ty.Bool
   one_store n store h = ap₂ (λ (v : Value) (b : Bool). record { value = v; pending = b }) value_is pending.0
     where
       by_form : (t : Ty) (class : Class) (delayed : Bool) → t ≡ ty.Bool → class ≡ Event → delayed ≡ false
@@ -141,8 +142,7 @@ module _ (m : Module) (first : IsFirst m) where
         only_stores outputs c.outputs (and_parts _ _ both.1).1,
         (
           refl,
-          λ scene. ap (λ (body : Behavior). body.fits r)
-              (same_behavior scene (scene_of program (first_round program [])) (length m.formals) m.body first.body) ∙ both.0,
+          both.0,
           λ k inside. refl,
         ),
       )
@@ -154,19 +154,19 @@ module _ (m : Module) (first : IsFirst m) where
         → (next_round program c [] env).now (formal_instance n) ≡ Known (truth_of (is_driven (driven_bits (mirror_of m.body) state) n))
     has_now env n inside =
         ap₂ (λ (value : Option Value) (one : Option Met). now_or_unknown program (step_writes program c env) value one)
-        (none_given program.inputs n) (ap (met_as (formal_instance n)) (met_is m first c state h env) ∙ found outputs n inside)
+        (none_given program.inputs n) (ap (met_as (formal_instance n)) (met_is m first c state h) ∙ found outputs n inside)
         ∙ settles m first c state h env n
 
     has_later : (env : Environment) (n : ℕ) → contains outputs n ≡ true → (next_round program c [] env).later (formal_instance n) ≡ later.Absent
     has_later env n inside =
         ap (λ (one : Option Met). later_or_unknown (step_writes program c env) one)
-        (ap (met_as (formal_instance n)) (met_is m first c state h env) ∙ found outputs n inside)
+        (ap (met_as (formal_instance n)) (met_is m first c state h) ∙ found outputs n inside)
         ∙ undelayed m first c state h env n
 
     -- what holds of each output that is met
-    each : (P : Met → Type 0) (env : Environment) → ((n : ℕ) → contains outputs n ≡ true → P (output_met n)) → AllByRecursion P (step_met program c env)
+    each : (P : Met → Type 0) (env : Environment) → ((n : ℕ) → contains outputs n ≡ true → P (output_met n)) → AllByRecursion P (step_met program c)
     each P env k =
-        subst (λ mets. AllByRecursion P mets) (sym (met_is m first c state h env))
+        subst (λ mets. AllByRecursion P mets) (sym (met_is m first c state h))
         (all-map P output_met outputs (members outputs (λ n. P (output_met n)) k))
 
     abbrev one : Environment
@@ -174,6 +174,7 @@ module _ (m : Module) (first : IsFirst m) where
 
     definite : IsDefinite program c []
     definite = record {
+      valuation = is_valuation m first c state h;
       least = one;
       is_least = record {
         number = suc zero;
@@ -193,9 +194,12 @@ module _ (m : Module) (first : IsFirst m) where
   no_inputs [] h = refl
   no_inputs (v ∷ row) h = absurd (false≢true h)
 
+  pub only_row : (row : List Value) → IsRow program row → row ≡ []
+  only_row row h = no_inputs row (subst (λ ns. are_inputs program ns row ≡ true) (inputs_of m.formals first.formals 0) h)
+
   pub always_definite : IsAlwaysDefinite program
   always_definite v h =
       let there = followed v.configuration v.configuration.place h.place in
       let follows : Follows m first v.configuration (state_at v.configuration.place) = record { outputs_are = there.0; place_is = there.1 } in
-      let row = no_inputs v.inputs (subst (λ ns. are_inputs program ns v.inputs ≡ true) (inputs_of m.formals first.formals 0) h.inputs) in
+      let row = only_row v.inputs h.inputs in
       subst (λ inputs. IsDefinite program v.configuration inputs) (sym row) (definite v.configuration (state_at v.configuration.place) follows)

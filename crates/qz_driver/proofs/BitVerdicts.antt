@@ -5,9 +5,9 @@ use Rattle.qz_values.specs.declared.Know.TheVariants.{Known}
 use Rattle.qz_values.specs.Values.{yes, truth_of}
 use Rattle.qz_syntax.specs.declared.declarations.Class.TheVariants.{Event}
 use Rattle.qz_meaning.specs.Instances.{formal_instance}
-use Rattle.qz_meaning.specs.Behaviors.{Write}
+use Rattle.qz_meaning.specs.Accounts.{Write}
 use Rattle.qz_meaning.specs.Settling.{settled, with_pending}
-use Rattle.qz_meaning.specs.Scenes.{new_store}
+use Rattle.qz_meaning.specs.Scenes.{default_store}
 use Rattle.qz_meaning.specs.Verdicts.{Verdict, Nobody, One, join, verdict_of_one, verdict}
 use Rattle.qz_meaning.proofs.JoinLemmas.{verdicts_join}
 use Rattle.qz_driver.specs.Mirror.{Bits, is_driven}
@@ -50,6 +50,6 @@ pub verdict_undelayed : (writes : List Write) (bits : Bits) → AreWritesOf writ
 verdict_undelayed writes bits h n = ap (verdict (formal_instance n) true) h.are ∙ verdict_later-writes_of h.same n
 
 -- what an event of type bool settles to
-pub settled_driven : (b : Bool) → settled Event ty.Bool (new_store ty.Bool) (with_pending (new_store ty.Bool) (driven_verdict b)) ≡ Known (truth_of b)
+pub settled_driven : (b : Bool) → settled Event ty.Bool (default_store ty.Bool) (with_pending (default_store ty.Bool) (driven_verdict b)) ≡ Known (truth_of b)
 settled_driven true = refl
 settled_driven false = refl

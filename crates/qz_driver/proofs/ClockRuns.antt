@@ -1,27 +1,31 @@
 -- Clocks that do what the bits say have the runs of the program.
 use Rattle.std.proofs.Common.{◌≡◌, ℕ, zero, suc, ◌+◌, ◌<◌, Bool, true, false, not, ◌++◌, List, [], ◌∷◌, map, length, replicate, slice_get, Some, refl, sym, ap, ap₂, subst, ◌∙◌, arith}
 use Rattle.std.specs.Option.{option_map_or}
-use Rattle.std.specs.List.{range_with_len}
+use Rattle.std.specs.List.{AllByRecursion, list_all, range_with_len}
+use Rattle.std.proofs.lemmas.Bool.{and_parts}
 use mathlib.Core.Path.{fun_ext}
 use Rattle.qz_values.specs.declared.Value.{Value}
 use Rattle.qz_values.specs.Values.{no, is_yes, truth_of}
 use Rattle.qz_syntax.specs.declared.modules.Module.{Module}
-use Rattle.qz_syntax.specs.Numbers.{places_of}
-use Rattle.qz_meaning.specs.Scenes.{contains}
+use Rattle.qz_syntax.specs.declared.declarations.Dir.TheVariants as dir
+use Rattle.qz_syntax.specs.declared.declarations.Formal.{Formal}
+use Rattle.qz_syntax.specs.declared.declarations.Port.{Port}
+use Rattle.qz_syntax.specs.Numbers.{contains, places_of}
 use Rattle.qz_meaning.specs.Programs.{program_of}
-use Rattle.qz_meaning.specs.Settling.{Configuration}
-use Rattle.qz_meaning.specs.MacroSteps.{initial, IsStep}
-use Rattle.qz_meaning.specs.Runs.{RunsFrom}
+use Rattle.qz_meaning.specs.Configurations.{Configuration, IsRow, initial}
+use Rattle.qz_meaning.specs.MacroSteps.{IsStep}
+use Rattle.qz_meaning.specs.Runs.{RunsFrom, HaveOneSolutionEach, IsOnlyRun}
 use Rattle.qz_driver.specs.declared.verilog.VModule.{VModule}
 use Rattle.qz_driver.specs.Mirror.{Bits, Control, mirror_of, is_driven}
-use Rattle.qz_driver.specs.FirstLanguage.{IsFirst}
+use Rattle.qz_driver.specs.FirstLanguage.{is_event_output, IsFirst}
 use Rattle.qz_driver.specs.Verilog.{Nets, bit_at, IsClock, ClocksFrom, BeginsWith, IsValid}
 use Rattle.qz_driver.specs.VerilogLaws.{SettlesOnce}
-use Rattle.qz_driver.specs.Does.{port_of, values_of, DoesProgram}
+use Rattle.qz_driver.specs.Does.{port_of, ports_of, values_of, DoesProgram}
 use Rattle.qz_driver.specs.BitRuns.{BitState, bit_row, next_state}
 use Rattle.qz_driver.proofs.SettleLemmas.{settles_once}
 use Rattle.qz_driver.proofs.PlaceLemmas.{in_range}
-use Rattle.qz_driver.proofs.FirstSteps.{Follows, initial_follows, after_step, step_follows, step_only, driven_by_both, moved_by_both, follows_alike}
+use Rattle.qz_driver.proofs.AlwaysDefinite.{only_row}
+use Rattle.qz_driver.proofs.FirstSteps.{output_parts, Follows, one_solution, initial_follows, after_step, step_follows, step_only, driven_by_both, moved_by_both, follows_alike}
 
 -- there is a clock, whatever the registers hold
 clock_there : (v : VModule) → IsValid v → (registers : Control) → (outs : List Bool) × (next : Control) × IsClock v registers outs next
@@ -61,6 +65,17 @@ all_no zero zero h = refl
 all_no zero (suc number) h = absurd (grind arith)
 all_no (suc places) zero h = refl
 all_no (suc places) (suc number) h = all_no places number (omega arith)
+
+-- all formals of the first language are outputs
+all_ports : (formals : List Formal) → list_all (λ (formal : Formal). is_event_output formal) formals ≡ true → ports_of dir.Out formals ≡ map port_of formals
+all_ports [] h = refl
+all_ports (formal ∷ formals) h =
+    let parts = and_parts _ _ h in
+    rw ((output_parts formal parts.0).1) (ap (λ (ports : List Port). port_of formal ∷ ports) (all_ports formals parts.1))
+
+no_ports : (formals : List Formal) → list_all (λ (formal : Formal). is_event_output formal) formals ≡ true → ports_of dir.In formals ≡ []
+no_ports [] h = refl
+no_ports (formal ∷ formals) h = let parts = and_parts _ _ h in rw ((output_parts formal parts.0).1) (no_ports formals parts.1)
 
 module _ (m : Module) (first : IsFirst m) (v : VModule) where
   abbrev places : ℕ
@@ -142,6 +157,19 @@ module _ (m : Module) (first : IsFirst m) (v : VModule) where
           ap₂ (λ (one : Configuration) (more : List Configuration). one ∷ more) step.1 rest.1,
         )
 
+    one_each : (rows : List (List Bool)) (registers : Control) (c : Configuration) → Follows m first c (state_of registers)
+        → (run : ClocksFrom v registers rows) → HaveOneSolutionEach (program_of m) c (replicate (length rows) []) (passed_by rows registers c run)
+    one_each [] registers c h run = tt
+    one_each (outs ∷ rows) registers c h run = (
+      one_solution m first c (state_of registers) h,
+      one_each rows run.0 (after_step m first c (state_of registers)) (follows_on outs registers c h run.0 run.1) run.2,
+    )
+
+    -- the program has no inputs, so its rows are empty
+    empty_rows : (rows : List (List Value)) → AllByRecursion (IsRow (program_of m)) rows → rows ≡ replicate (length rows) []
+    empty_rows [] h = refl
+    empty_rows (row ∷ rows) h = ap₂ (λ (one : List Value) (more : List (List Value)). one ∷ more) (only_row m first row h.0) (empty_rows rows h.1)
+
     module _ (begins : v.regs ≡ replicate places no ++ no ∷ []) where
       follows_first : (registers : Control) → BeginsWith v registers → Follows m first (initial (program_of m)) (state_of registers)
       follows_first registers h = initial_follows m first (state_of registers) (off places (omega arith))
@@ -156,17 +184,21 @@ module _ (m : Module) (first : IsFirst m) (v : VModule) where
       pub does_program : v.name ≡ m.name → v.outputs ≡ map port_of m.formals → IsValid v → DoesProgram v m
       does_program name outputs valid = record {
         name = name;
-        outputs = outputs;
-        runs = λ steps.
-            let run = clocks_there v valid steps (first_registers v) in
-            (run.0, (first_registers v, begins_there v, run.1), run.2);
-        same = λ rows run.
+        inputs = sym (no_ports m.formals first.formals);
+        outputs = outputs ∙ sym (all_ports m.formals first.formals);
+        runs = λ rows fits.
+            let run = clocks_there v valid (length rows) (first_registers v) in
+            (run.0, record { clocks = (first_registers v, begins_there v, run.1); each = run.2 });
+        same = λ rows fits outs over.
+            let run = over.clocks in
             let from = initial (program_of m) in
             let follows = follows_first run.0 run.1 in
-            record {
-              passed = passed_by rows run.0 from run.2;
-              runs = runs_there rows run.0 from follows run.2;
-              only_outputs = λ others other. (only_runs rows run.0 from follows run.2 others other.0 other.1).0;
-              only_way = λ others past other. (only_runs rows run.0 from follows run.2 others past other).1;
+            subst (λ (some : List (List Value)). IsOnlyRun (program_of m) some (values_of outs))
+            (ap (λ n. replicate n []) over.each ∙ sym (empty_rows rows fits)) record {
+              passed = passed_by outs run.0 from run.2;
+              runs = runs_there outs run.0 from follows run.2;
+              one_solution = one_each outs run.0 from follows run.2;
+              only_outputs = λ others other. (only_runs outs run.0 from follows run.2 others other.0 other.1).0;
+              only_way = λ others past other. (only_runs outs run.0 from follows run.2 others past other).1;
             };
       }

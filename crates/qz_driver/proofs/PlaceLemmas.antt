@@ -7,9 +7,10 @@ use Rattle.qz_syntax.specs.declared.places.Residual.{Residual, out-Residual, rol
 use Rattle.qz_syntax.specs.declared.places.Residual.TheOpen.{Residual-F}
 use Rattle.qz_syntax.specs.declared.places.Residual.TheViews.{roll-out-Residual}
 use Rattle.qz_syntax.specs.declared.places.Residual.TheVariants.{At, InSeq, InBody, rolls-At, rolls-InSeq, rolls-InBody}
-use Rattle.qz_meaning.specs.Scenes.{contains}
+use Rattle.qz_syntax.specs.Numbers.{contains}
+use Rattle.qz_meaning.specs.LayoutLaws.{AreDifferent}
 use Rattle.qz_driver.specs.Mirror.{Control}
-use Rattle.qz_driver.specs.FirstResumes.{AreDifferent, IsControl}
+use Rattle.qz_driver.specs.FirstResumes.{IsControl}
 
 pub contains-append : (xs ys : List ℕ) (n : ℕ) → contains (xs ++ ys) n ≡ (contains xs n || contains ys n)
 contains-append xs ys n = list_any-append (λ number. number == n) xs ys

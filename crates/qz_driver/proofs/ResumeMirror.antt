@@ -11,11 +11,14 @@ use Rattle.qz_syntax.specs.declared.places.Mark.TheVariants as mark
 use Rattle.qz_syntax.specs.declared.places.Residual.{Residual, out-Residual}
 use Rattle.qz_syntax.specs.declared.places.Residual.TheOpen.{Residual-F}
 use Rattle.qz_syntax.specs.declared.places.Residual.TheVariants.{At, InBody}
-use Rattle.qz_meaning.specs.Scenes.{Scene, Context, contains}
+use Rattle.qz_syntax.specs.Numbers.{contains}
+use Rattle.qz_meaning.specs.Scenes.{Passing, Context}
 use Rattle.qz_meaning.specs.Expressions.{value_here}
-use Rattle.qz_meaning.specs.Behaviors.{Write, Behavior}
-use Rattle.qz_meaning.specs.Simple.{pause, is_at_in}
-use Rattle.qz_meaning.specs.Loops.{repetition, fits_in_body}
+use Rattle.qz_meaning.specs.Accounts.{Write}
+use Rattle.qz_meaning.specs.Layouts.{Layout, bare}
+use Rattle.qz_meaning.specs.Simple.{pause, pause_layout, is_at_in}
+use Rattle.qz_meaning.specs.Loops.{loop, loop_layout, fits_in_body}
+use Rattle.qz_meaning.specs.Residing.{residing, Walk}
 use Rattle.qz_meaning.specs.Valuations.{node_places, resting_places}
 use Rattle.qz_meaning.proofs.Folding.{fold-At, fold-InBody}
 use Rattle.qz_meaning.proofs.Resting.{out-InBody}
@@ -27,17 +30,17 @@ use Rattle.qz_driver.proofs.PlaceLemmas.{is-At, is-InBody}
 use Rattle.qz_driver.proofs.StartMirror.{Starting}
 
 -- what the induction carries, of a statement with these places
-pub record Resuming (body other : Behavior) (mirror : Mirror) (places : List ℕ) : Type 0 where
+pub record Resuming (body : Walk) (l : Layout) (mirror : Mirror) (places : List ℕ) : Type 0 where
   pub still : (control : Control) → IsControl control places [] → IsStill mirror control
-  pub resumes : (control : Control) (r : Residual) → body.fits r ≡ true → IsControl control places (resting_places r) → ResumesAs body mirror control r
-  pub moves_none : (control : Control) (r : Residual) → body.fits r ≡ true → IsControl control places (resting_places r)
+  pub resumes : (control : Control) (r : Residual) → l.fits r ≡ true → IsControl control places (resting_places r) → ResumesAs body l mirror control r
+  pub moves_none : (control : Control) (r : Residual) → l.fits r ≡ true → IsControl control places (resting_places r)
       → mirror.ended control ≡ true → (place : ℕ) → is_driven (mirror.move control) place ≡ false
-  pub fits : (ctx : Context) (r : Residual) → body.fits r ≡ true → CanRest other (body.after ctx r)
-  pub within : (r : Residual) → body.fits r ≡ true → (place : ℕ) → contains (resting_places r) place ≡ true → contains places place ≡ true
+  pub fits : (ctx : Context) (r : Residual) → l.fits r ≡ true → CanRest l (body.after ctx r)
+  pub within : (r : Residual) → l.fits r ≡ true → (place : ℕ) → contains (resting_places r) place ≡ true → contains places place ≡ true
 
-pub resuming_carried : {body same other like : Behavior} {mirror image : Mirror} {places numbers : List ℕ}
-    → body ≡ same → other ≡ like → mirror ≡ image → places ≡ numbers
-    → Resuming same like image numbers → Resuming body other mirror places
+pub resuming_carried : {body same : Walk} {l like : Layout} {mirror image : Mirror} {places numbers : List ℕ}
+    → body ≡ same → l ≡ like → mirror ≡ image → places ≡ numbers
+    → Resuming same like image numbers → Resuming body l mirror places
 resuming_carried p q r s t = rw (p, q, r, s) t
 
 -- writes one after the other
@@ -53,18 +56,17 @@ writes-append xs ys first second h k = record {
 pub writes_alike : (xs : List Write) (first second : Bits) → AreWritesOf xs first → ((output : ℕ) → is_driven first output ≡ is_driven second output) → AreWritesOf xs second
 writes_alike xs first second h k = record { same = h.same; are = h.are; drive = λ output. h.drive output ∙ k output }
 
-pub resuming-idle : (start : Bool → Bits) (body other : Behavior) (no_rest : (r : Residual) → body.fits r ≡ false)
-    → Resuming body other (record idle_mirror { start = start }) []
-resuming-idle start body other no_rest = record {
+pub resuming-idle : (start : Bool → Bits) (body : Walk) → Resuming body bare (record idle_mirror { start = start }) []
+resuming-idle start body = record {
   still = λ control away. record { inside = refl; ended = refl; undriven = λ act output. refl; unmoved = λ place. refl };
-  resumes = λ control r fits at. absurd (false≢true (sym (no_rest r) ∙ fits));
+  resumes = λ control r fits at. absurd (false≢true fits);
   moves_none = λ control r fits at h place. refl;
-  fits = λ ctx r fits. absurd (false≢true (sym (no_rest r) ∙ fits));
-  within = λ r fits. absurd (false≢true (sym (no_rest r) ∙ fits));
+  fits = λ ctx r fits. absurd (false≢true fits);
+  within = λ r fits. absurd (false≢true fits);
 }
 
 -- a residual that fits a pause is at it
-at_pause : (number : ℕ) (r : Residual) → (pause number).fits r ≡ true → r ≡ At number
+at_pause : (number : ℕ) (r : Residual) → (pause_layout number).fits r ≡ true → r ≡ At number
 at_pause number r h = by_form (out-Residual r) refl h
   where
     by_form : (node : Residual-F Residual) → out-Residual r ≡ node → is_at_in number node ≡ true → r ≡ At number
@@ -77,8 +79,8 @@ at_pause number r h = by_form (out-Residual r) refl h
     by_form (Residual-F.InScope stores inside) is e = absurd (false≢true e)
     by_form (Residual-F.InCall call) is e = absurd (false≢true e)
 
-pub resuming-pause : (number : ℕ) → Resuming (pause number) (pause number) (pause_mirror number) (number ∷ [])
-resuming-pause number = record {
+pub resuming-pause : (step : Passing) (number : ℕ) → Resuming (pause (residing step) number) (pause_layout number) (pause_mirror number) (number ∷ [])
+resuming-pause step number = record {
   still = λ control away. record {
     inside = away number own;
     ended = away number own;
@@ -100,18 +102,18 @@ resuming-pause number = record {
     own : contains (number ∷ []) number ≡ true
     own = ap (λ b. b || false) (eq-eqb number number refl)
 
-    places_are : (r : Residual) → (pause number).fits r ≡ true → resting_places r ≡ number ∷ []
+    places_are : (r : Residual) → (pause_layout number).fits r ≡ true → resting_places r ≡ number ∷ []
     places_are r fits = ap resting_places (at_pause number r fits) ∙ fold-At (List ℕ) node_places number
 
-    rests : (control : Control) (r : Residual) → (pause number).fits r ≡ true → IsControl control (number ∷ []) (resting_places r) → control number ≡ true
+    rests : (control : Control) (r : Residual) → (pause_layout number).fits r ≡ true → IsControl control (number ∷ []) (resting_places r) → control number ≡ true
     rests control r fits at = at number own ∙ ap (λ numbers. contains numbers number) (places_are r fits) ∙ own
 
 -- a residual that fits a loop is in its body
-in_body_of : (body : Behavior) (r : Residual) → fits_in_body body (out-Residual r) ≡ true → (inside : Residual) × (r ≡ InBody inside) × (body.fits inside ≡ true)
-in_body_of body r h = by_form (out-Residual r) refl h
+in_body_of : (l : Layout) (r : Residual) → fits_in_body l (out-Residual r) ≡ true → (inside : Residual) × (r ≡ InBody inside) × (l.fits inside ≡ true)
+in_body_of l r h = by_form (out-Residual r) refl h
   where
-    by_form : (node : Residual-F Residual) → out-Residual r ≡ node → fits_in_body body node ≡ true
-        → (inside : Residual) × (r ≡ InBody inside) × (body.fits inside ≡ true)
+    by_form : (node : Residual-F Residual) → out-Residual r ≡ node → fits_in_body l node ≡ true
+        → (inside : Residual) × (r ≡ InBody inside) × (l.fits inside ≡ true)
     by_form (Residual-F.InBody inside) is e = (inside, is-InBody r inside is, e)
     by_form (Residual-F.At other) is e = absurd (false≢true e)
     by_form (Residual-F.Hold place) is e = absurd (false≢true e)
@@ -121,27 +123,27 @@ in_body_of body r h = by_form (out-Residual r) refl h
     by_form (Residual-F.InScope stores inside) is e = absurd (false≢true e)
     by_form (Residual-F.InCall call) is e = absurd (false≢true e)
 
-module _ (scene alike : Scene) (number : ℕ) (condition : Expr) (known : bit_of condition ≡ true) (body other : Behavior) (mirror : Mirror) (places : List ℕ)
-    (starting : Starting body other mirror) (resuming : Resuming body other mirror places) where
-  abbrev loop : Behavior
-  loop = repetition scene number body condition
+module _ (step : Passing) (number : ℕ) (condition : Expr) (known : bit_of condition ≡ true) (body : Walk) (l : Layout) (mirror : Mirror) (places : List ℕ)
+    (starting : Starting body l mirror) (resuming : Resuming body l mirror places) where
+  abbrev turning : Walk
+  turning = loop step.now (residing step) number body condition
 
   abbrev bits : Mirror
   bits = loop_mirror mirror condition
 
   -- the condition holds, so the loop turns just where its body ends
   turns_as : (ctx : Context) (inside : Residual) (b : Bool) → body.ended ctx inside ≡ Known (truth_of b)
-      → both (body.ended ctx inside) (value_here scene ctx condition) ≡ Known (truth_of b)
+      → both (body.ended ctx inside) (value_here step.now ctx condition) ≡ Known (truth_of b)
   turns_as ctx inside b h =
-      ap₂ (λ k v. both k v) h (literal_yes scene ctx condition known) ∙ both_known b true ∙ ap (λ c. Known (truth_of c)) (and-true b)
+      ap₂ (λ k v. both k v) h (literal_yes step.now ctx condition known) ∙ both_known b true ∙ ap (λ c. Known (truth_of c)) (and-true b)
 
   turned : (control : Control) → (mirror.ended control && bit_of condition) ≡ mirror.ended control
   turned control = ap (λ b. mirror.ended control && b) known ∙ and-true (mirror.ended control)
 
-  loop_writes : (control : Control) (inside : Residual) → ResumesAs body mirror control inside → (ctx : Context) (g : Bool)
+  loop_writes : (control : Control) (inside : Residual) → ResumesAs body l mirror control inside → (ctx : Context) (g : Bool)
       → AreWritesOf
       (body.resume ctx inside (Known (truth_of g))
-      ++ body.start ctx (both (both (Known (truth_of g)) (body.ended ctx inside)) (value_here scene ctx condition)) (mark.Loop number))
+      ++ body.start ctx (both (both (Known (truth_of g)) (body.ended ctx inside)) (value_here step.now ctx condition)) (mark.Loop number))
       (bits.resume control g)
   loop_writes control inside h ctx g =
       writes-append _ _ _ _ (h.writes ctx g) (record {
@@ -150,25 +152,23 @@ module _ (scene alike : Scene) (number : ℕ) (condition : Expr) (known : bit_of
         drive = λ output. refl;
       })
     where
-      guard : both (both (Known (truth_of g)) (body.ended ctx inside)) (value_here scene ctx condition)
+      guard : both (both (Known (truth_of g)) (body.ended ctx inside)) (value_here step.now ctx condition)
           ≡ Known (truth_of (g && (mirror.ended control && bit_of condition)))
       guard =
-          ap₂ (λ k v. both (both (Known (truth_of g)) k) v) (h.ended ctx) (literal_yes scene ctx condition known)
+          ap₂ (λ k v. both (both (Known (truth_of g)) k) v) (h.ended ctx) (literal_yes step.now ctx condition known)
           ∙ ap (λ k. both k (Known yes)) (both_known g (mirror.ended control))
           ∙ both_known (g && mirror.ended control) true
           ∙ ap (λ b. Known (truth_of b)) (and-true (g && mirror.ended control) ∙ ap (λ b. g && b) (sym (turned control)))
 
-  loop_rests : (control : Control) (inside : Residual) → body.fits inside ≡ true → IsControl control places (resting_places inside)
+  loop_rests : (control : Control) (inside : Residual) → l.fits inside ≡ true → IsControl control places (resting_places inside)
       → (ctx : Context) (place : ℕ)
       → contains (places_at (
-      if knows_yes (both (body.ended ctx inside) (value_here scene ctx condition))
-      then option_map (λ r. InBody r) (body.rest ctx (mark.Loop number))
-      else option_map (λ r. InBody r) (body.after ctx inside)
+      option_map (λ r. InBody r) (if knows_yes (both (body.ended ctx inside) (value_here step.now ctx condition)) then body.rest ctx (mark.Loop number) else body.after ctx inside)
       )) place
       ≡ is_driven (bits.move control) place
   loop_rests control inside fits at ctx place = by_end (mirror.ended control) refl
     where
-      h : ResumesAs body mirror control inside
+      h : ResumesAs body l mirror control inside
       h = resuming.resumes control inside fits at
 
       moved : (b : Bool) → mirror.ended control ≡ b
@@ -179,43 +179,41 @@ module _ (scene alike : Scene) (number : ℕ) (condition : Expr) (known : bit_of
 
       by_end : (b : Bool) → mirror.ended control ≡ b
           → contains (places_at (
-          if knows_yes (both (body.ended ctx inside) (value_here scene ctx condition))
-          then option_map (λ r. InBody r) (body.rest ctx (mark.Loop number))
-          else option_map (λ r. InBody r) (body.after ctx inside)
+          option_map (λ r. InBody r) (if knows_yes (both (body.ended ctx inside) (value_here step.now ctx condition)) then body.rest ctx (mark.Loop number) else body.after ctx inside)
           )) place
           ≡ is_driven (bits.move control) place
       by_end true e =
           ap (λ k. contains (places_at (
-          if knows_yes k then option_map (λ r. InBody r) (body.rest ctx (mark.Loop number)) else option_map (λ r. InBody r) (body.after ctx inside)
+          option_map (λ r. InBody r) (if knows_yes k then body.rest ctx (mark.Loop number) else body.after ctx inside)
           )) place) (turns_as ctx inside true (h.ended ctx ∙ ap (λ b. Known (truth_of b)) e))
           ∙ ap (λ numbers. contains numbers place) (places_at-in_body (body.rest ctx (mark.Loop number)))
           ∙ starting.starts.rests ctx (mark.Loop number) place
           ∙ sym (moved true e ∙ ap (λ b. b || is_driven (mirror.enter true) place) (resuming.moves_none control inside fits at e place))
       by_end false e =
           ap (λ k. contains (places_at (
-          if knows_yes k then option_map (λ r. InBody r) (body.rest ctx (mark.Loop number)) else option_map (λ r. InBody r) (body.after ctx inside)
+          option_map (λ r. InBody r) (if knows_yes k then body.rest ctx (mark.Loop number) else body.after ctx inside)
           )) place) (turns_as ctx inside false (h.ended ctx ∙ ap (λ b. Known (truth_of b)) e))
           ∙ ap (λ numbers. contains numbers place) (places_at-in_body (body.after ctx inside))
           ∙ h.rests ctx place
           ∙ sym (moved false e ∙ ap (λ b. is_driven (mirror.move control) place || b) (starting.unentered place) ∙ or-false (is_driven (mirror.move control) place))
 
   loop_ended : (control : Control) (ctx : Context) (inside : Residual) → body.ended ctx inside ≡ Known (truth_of (mirror.ended control))
-      → both (body.ended ctx inside) (opposite (value_here scene ctx condition)) ≡ Known (truth_of (mirror.ended control && not (bit_of condition)))
+      → both (body.ended ctx inside) (opposite (value_here step.now ctx condition)) ≡ Known (truth_of (mirror.ended control && not (bit_of condition)))
   loop_ended control ctx inside h =
-      ap₂ (λ k v. both k (opposite v)) h (literal_yes scene ctx condition known) ∙ both_known (mirror.ended control) false
+      ap₂ (λ k v. both k (opposite v)) h (literal_yes step.now ctx condition known) ∙ both_known (mirror.ended control) false
       ∙ ap (λ b. Known (truth_of (mirror.ended control && not b))) (sym known)
 
-  in_loop : (inside : Option Residual) → CanRest other inside → CanRest (repetition alike number other condition) (option_map (λ r. InBody r) inside)
+  in_loop : (inside : Option Residual) → CanRest l inside → CanRest (loop_layout number l) (option_map (λ r. InBody r) inside)
   in_loop None h = tt
   in_loop (Some r) h = rw (out-InBody r) h
 
-  one_of : (b : Bool) (first second : Option Residual) → CanRest other first → CanRest other second
-      → CanRest (repetition alike number other condition) (if b then option_map (λ r. InBody r) first else option_map (λ r. InBody r) second)
+  one_of : (b : Bool) (first second : Option Residual) → CanRest l first → CanRest l second
+      → CanRest (loop_layout number l) (option_map (λ r. InBody r) (if b then first else second))
   one_of true first second h k = in_loop first h
   one_of false first second h k = in_loop second k
 
-  loop_resumes : (control : Control) (inside : Residual) → body.fits inside ≡ true → IsControl control places (resting_places inside)
-      → ResumesAs loop bits control (InBody inside)
+  loop_resumes : (control : Control) (inside : Residual) → l.fits inside ≡ true → IsControl control places (resting_places inside)
+      → ResumesAs turning (loop_layout number l) bits control (InBody inside)
   loop_resumes control inside fits at =
       let h = resuming.resumes control inside fits at in
       record {
@@ -242,27 +240,27 @@ module _ (scene alike : Scene) (number : ℕ) (condition : Expr) (known : bit_of
             (ap (λ b. is_driven (mirror.enter b) place) (ap (λ b. b && bit_of condition) h.ended) ∙ starting.unentered place);
       }
 
-  resuming_loop : Resuming loop (repetition alike number other condition) bits places
+  resuming_loop : Resuming turning (loop_layout number l) bits places
   resuming_loop = record {
     still = loop_still;
     resumes = λ control r fits at.
-        let inner = in_body_of body r fits in
-        subst (λ q. ResumesAs loop bits control q) (sym inner.1) (loop_resumes control inner.0 inner.2
+        let inner = in_body_of l r fits in
+        subst (λ q. ResumesAs turning (loop_layout number l) bits control q) (sym inner.1) (loop_resumes control inner.0 inner.2
         (subst (λ numbers. IsControl control places numbers) (ap resting_places inner.1 ∙ fold-InBody (List ℕ) node_places inner.0) at));
     moves_none = λ control r fits at e place.
         absurd (false≢true (sym (ap (λ b. mirror.ended control && not b) known ∙ and-false (mirror.ended control)) ∙ e));
     fits = λ ctx r fits.
-        let inner = in_body_of body r fits in
-        subst (λ q. CanRest (repetition alike number other condition) (loop.after ctx q)) (sym inner.1) (rw (out-InBody inner.0)
-        (one_of (knows_yes (both (body.ended ctx inner.0) (value_here scene ctx condition))) (body.rest ctx (mark.Loop number)) (body.after ctx inner.0)
+        let inner = in_body_of l r fits in
+        subst (λ q. CanRest (loop_layout number l) (turning.after ctx q)) (sym inner.1) (rw (out-InBody inner.0)
+        (one_of (knows_yes (both (body.ended ctx inner.0) (value_here step.now ctx condition))) (body.rest ctx (mark.Loop number)) (body.after ctx inner.0)
         (starting.fits ctx (mark.Loop number)) (resuming.fits ctx inner.0 inner.2)));
     within = λ r fits place h.
-        let inner = in_body_of body r fits in
+        let inner = in_body_of l r fits in
         resuming.within inner.0 inner.2 place (ap (λ numbers. contains numbers place) (sym (ap resting_places inner.1 ∙ fold-InBody (List ℕ) node_places inner.0)) ∙ h);
   }
 
-pub resuming-loop : (scene alike : Scene) (number : ℕ) (condition : Expr) → bit_of condition ≡ true → (body other : Behavior) (mirror : Mirror) (places : List ℕ)
-    → Starting body other mirror → Resuming body other mirror places
-    → Resuming (repetition scene number body condition) (repetition alike number other condition) (loop_mirror mirror condition) places
-resuming-loop scene alike number condition known body other mirror places starting resuming =
-    resuming_loop scene alike number condition known body other mirror places starting resuming
+pub resuming-loop : (step : Passing) (number : ℕ) (condition : Expr) → bit_of condition ≡ true → (body : Walk) (l : Layout) (mirror : Mirror) (places : List ℕ)
+    → Starting body l mirror → Resuming body l mirror places
+    → Resuming (loop step.now (residing step) number body condition) (loop_layout number l) (loop_mirror mirror condition) places
+resuming-loop step number condition known body l mirror places starting resuming =
+    resuming_loop step number condition known body l mirror places starting resuming

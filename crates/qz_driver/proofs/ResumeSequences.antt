@@ -10,15 +10,17 @@ use Rattle.qz_syntax.specs.declared.places.Mark.TheVariants as mark
 use Rattle.qz_syntax.specs.declared.places.Residual.{Residual}
 use Rattle.qz_syntax.specs.declared.places.Residual.TheVariants.{InSeq}
 use Rattle.qz_syntax.specs.declared.statements.Stmt.{Stmt}
-use Rattle.qz_syntax.specs.Numbers.{places_of}
-use Rattle.qz_meaning.specs.Scenes.{Scene, Context, contains}
-use Rattle.qz_meaning.specs.Behaviors.{Behavior}
+use Rattle.qz_syntax.specs.Numbers.{contains, places_of}
+use Rattle.qz_meaning.specs.Scenes.{Passing, Context}
+use Rattle.qz_meaning.specs.Layouts.{Layout, bare}
+use Rattle.qz_meaning.specs.Behaviors.{idle}
 use Rattle.qz_meaning.specs.Sequences.{start_in_turn, ends_of_all, rest_in_first, member}
-use Rattle.qz_meaning.specs.Walks.{behavior}
+use Rattle.qz_meaning.specs.Residing.{residing, Walk, walk, whole_layout}
 use Rattle.qz_meaning.specs.Valuations.{resting_places}
+use Rattle.qz_meaning.specs.LayoutLaws.{AreDifferent}
 use Rattle.qz_driver.specs.Mirror.{Control, Mirror, sequence_mirror, any_inside, all_at_once, start_all, enter_all, ended_all, resume_all, move_all, mirror_of, is_driven}
 use Rattle.qz_driver.specs.FirstWalk.{places_at}
-use Rattle.qz_driver.specs.FirstResumes.{AreWritesOf, ResumesAs, IsStill, IsControl, AreDifferent}
+use Rattle.qz_driver.specs.FirstResumes.{AreWritesOf, ResumesAs, IsStill, IsControl}
 use Rattle.qz_driver.proofs.BitLemmas.{and-false, and_assoc, or-false, both_known, is_driven-append, places_at-in_seq}
 use Rattle.qz_driver.proofs.PlaceLemmas.{contains_left, contains_right, control_left, control_right, away_left, away_right, different_right}
 use Rattle.qz_driver.proofs.StartMirror.{Started, ends_all, writes_all, undriven_all, unentered_all, enters_none_all, rests_all, meets_all}
@@ -31,29 +33,35 @@ places_of_all parts = concat (map places_of parts)
 pub below : (number count : ℕ) → nat_lt (suc number) (suc count) ≡ true → nat_lt number count ≡ true
 below number count h = lt-ltb number count (omega (arith, ltb-true (suc number) (suc count) h))
 
-module _ (scene other : Scene) where
+module _ (step : Passing) where
+  abbrev none : Walk
+  none = idle (residing step)
+
   abbrev pub Resumed : Stmt → Type 0
-  Resumed s = Resuming (behavior scene s) (behavior other s) (mirror_of s) (places_of s)
+  Resumed s = Resuming (walk step s) (whole_layout s) (mirror_of s) (places_of s)
 
   abbrev pub Starts : List Stmt → Type 0
-  Starts parts = AllByRecursion (Started scene other) parts
+  Starts parts = AllByRecursion (Started step) parts
 
   abbrev pub Resumes : List Stmt → Type 0
   Resumes parts = AllByRecursion Resumed parts
 
-  abbrev pub behaviors : List Stmt → List Behavior
-  behaviors parts = map (behavior scene) parts
+  abbrev pub walks : List Stmt → List Walk
+  walks parts = map (walk step) parts
+
+  abbrev pub layouts : List Stmt → List Layout
+  layouts parts = map whole_layout parts
 
   abbrev pub mirrors : List Stmt → List Mirror
   mirrors parts = map mirror_of parts
 
-  pub member_within : (parts : List Stmt) → Resumes parts → (number : ℕ) (r : Residual) → nat_lt number (length (behaviors parts)) ≡ true
-      → (member (behaviors parts) number).fits r ≡ true → (place : ℕ) → contains (resting_places r) place ≡ true
+  pub member_within : (parts : List Stmt) → Resumes parts → (number : ℕ) (r : Residual) → nat_lt number (length (layouts parts)) ≡ true
+      → (member bare (layouts parts) number).fits r ≡ true → (place : ℕ) → contains (resting_places r) place ≡ true
       → contains (places_of_all parts) place ≡ true
   member_within [] h number r there fits place e = absurd (false≢true (grind arith))
   member_within (s ∷ parts) h zero r there fits place e = contains_left (places_of s) (places_of_all parts) place (h.0.within r fits place e)
   member_within (s ∷ parts) h (suc number) r there fits place e =
-      contains_right (places_of s) (places_of_all parts) place (member_within parts h.1 number r (below number (length (behaviors parts)) there) fits place e)
+      contains_right (places_of s) (places_of_all parts) place (member_within parts h.1 number r (below number (length (layouts parts)) there) fits place e)
 
   module _ (control : Control) where
     abbrev Away : List ℕ → Type 0
@@ -120,47 +128,47 @@ module _ (scene other : Scene) where
       undriven = λ act output.
           still_driven parts h away act false output
           ∙ ap (λ b. is_driven (start_all (mirrors parts) b) output) (and-false act)
-          ∙ undriven_all scene other parts starts output;
-      unmoved = λ place. still_moved parts h away false place ∙ unentered_all scene other parts starts place;
+          ∙ undriven_all step parts starts output;
+      unmoved = λ place. still_moved parts h away false place ∙ unentered_all step parts starts place;
     }
 
     -- what is resumed of a sequence where control rests in the member with this number
     pub record Member (parts : List Stmt) (number : ℕ) (r : Residual) : Type 0 where
       pub inside : any_inside (mirrors parts) control ≡ true
       pub ended : (ctx : Context)
-          → ends_of_all ctx (drop (suc number) (behaviors parts)) ((member (behaviors parts) number).ended ctx r) mark.Zero
+          → ends_of_all ctx (drop (suc number) (walks parts)) ((member none (walks parts) number).ended ctx r) mark.Zero
           ≡ Known (truth_of (ended_all (mirrors parts) control false))
       pub writes : (ctx : Context) (g : Bool)
           → AreWritesOf
-          ((member (behaviors parts) number).resume ctx r (Known (truth_of g))
-          ++ start_in_turn ctx (drop (suc number) (behaviors parts)) (both (Known (truth_of g)) ((member (behaviors parts) number).ended ctx r)) mark.Zero)
+          ((member none (walks parts) number).resume ctx r (Known (truth_of g))
+          ++ start_in_turn ctx (drop (suc number) (walks parts)) (both (Known (truth_of g)) ((member none (walks parts) number).ended ctx r)) mark.Zero)
           (resume_all (mirrors parts) control g false)
       pub rests : (ctx : Context) (at next place : ℕ)
           → contains (places_at (
-          if knows_yes ((member (behaviors parts) number).ended ctx r)
-          then rest_in_first ctx (drop (suc number) (behaviors parts)) next mark.Zero
-          else option_map (λ q. InSeq at q) ((member (behaviors parts) number).after ctx r)
+          if knows_yes ((member none (walks parts) number).ended ctx r)
+          then rest_in_first (residing step) ctx (drop (suc number) (walks parts)) next mark.Zero
+          else option_map (λ q. InSeq at q) ((member none (walks parts) number).after ctx r)
           )) place
           ≡ is_driven (move_all (mirrors parts) control false) place
-      pub meets : (member (behaviors parts) number).met_on_resume r
-          ++ flat_map (λ (part : Behavior). part.met_on_start mark.Zero) (drop (suc number) (behaviors parts))
+      pub meets : (member bare (layouts parts) number).met_on_resume r
+          ++ flat_map (λ (part : Layout). part.met_on_start mark.Zero) (drop (suc number) (layouts parts))
           ≡ []
       pub moves_none : ended_all (mirrors parts) control false ≡ true → (place : ℕ) → is_driven (move_all (mirrors parts) control false) place ≡ false
 
     member_first : (s : Stmt) (parts : List Stmt) → Starts (s ∷ parts) → Resumes (s ∷ parts) → (r : Residual)
-        → (behavior scene s).fits r ≡ true → IsControl control (places_of s) (resting_places r) → Away (places_of_all parts)
+        → (whole_layout s).fits r ≡ true → IsControl control (places_of s) (resting_places r) → Away (places_of_all parts)
         → Member (s ∷ parts) 0 r
     member_first s parts starts h r fits own away = record {
       inside = ap (λ b. b || any_inside (mirrors parts) control) resumed.inside;
       ended = λ ctx.
-          ap (λ k. ends_of_all ctx (behaviors parts) k mark.Zero) (resumed.ended ctx)
-          ∙ ends_all scene other ctx mark.Zero parts starts.1 ((mirror_of s).ended control)
+          ap (λ k. ends_of_all ctx (walks parts) k mark.Zero) (resumed.ended ctx)
+          ∙ ends_all step ctx mark.Zero parts starts.1 ((mirror_of s).ended control)
           ∙ ap (λ b. Known (truth_of b)) (sym (still_ended parts h.1 away ((mirror_of s).ended control)));
       writes = λ ctx g. writes-append _ _ _ _ (resumed.writes ctx g) (record {
         same = start_all (mirrors parts) (g && ((mirror_of s).ended control));
-        are = ap (λ k. start_in_turn ctx (behaviors parts) (both (Known (truth_of g)) k) mark.Zero) (resumed.ended ctx)
-            ∙ ap (λ k. start_in_turn ctx (behaviors parts) k mark.Zero) (both_known g ((mirror_of s).ended control))
-            ∙ writes_all scene other ctx mark.Zero parts starts.1 (g && ((mirror_of s).ended control));
+        are = ap (λ k. start_in_turn ctx (walks parts) (both (Known (truth_of g)) k) mark.Zero) (resumed.ended ctx)
+            ∙ ap (λ k. start_in_turn ctx (walks parts) k mark.Zero) (both_known g ((mirror_of s).ended control))
+            ∙ writes_all step ctx mark.Zero parts starts.1 (g && ((mirror_of s).ended control));
         drive = λ output. sym (
             is_driven-append ((mirror_of s).start (g && false)) (resume_all (mirrors parts) control g ((mirror_of s).ended control)) output
             ∙ ap₂ (λ a b. a || b) (ap (λ b. is_driven ((mirror_of s).start b) output) (and-false g) ∙ starts.0.undriven output)
@@ -168,14 +176,14 @@ module _ (scene other : Scene) where
             );
       });
       rests = λ ctx at next place. rests_by ctx at next place ((mirror_of s).ended control) refl;
-      meets = ap₂ (λ xs ys. xs ++ ys) resumed.meets (meets_all scene other mark.Zero parts starts.1);
+      meets = ap₂ (λ xs ys. xs ++ ys) resumed.meets (meets_all step mark.Zero parts starts.1);
       moves_none = λ e place.
           let both_end = and_parts ((mirror_of s).ended control) (all_at_once (mirrors parts)) (sym (still_ended parts h.1 away ((mirror_of s).ended control)) ∙ e) in
           moved place
-          ∙ ap₂ (λ a b. a || b) (h.0.moves_none control r fits own both_end.0 place) (enters_none_all scene other parts starts.1 both_end.1 ((mirror_of s).ended control) place);
+          ∙ ap₂ (λ a b. a || b) (h.0.moves_none control r fits own both_end.0 place) (enters_none_all step parts starts.1 both_end.1 ((mirror_of s).ended control) place);
     }
       where
-        resumed : ResumesAs (behavior scene s) (mirror_of s) control r
+        resumed : ResumesAs (walk step s) (whole_layout s) (mirror_of s) control r
         resumed = h.0.resumes control r fits own
 
         moved : (place : ℕ) → is_driven (move_all (mirrors (s ∷ parts)) control false) place
@@ -189,27 +197,27 @@ module _ (scene other : Scene) where
 
         rests_by : (ctx : Context) (at next place : ℕ) (b : Bool) → ((mirror_of s).ended control) ≡ b
             → contains (places_at (
-            if knows_yes ((behavior scene s).ended ctx r)
-            then rest_in_first ctx (behaviors parts) next mark.Zero
-            else option_map (λ q. InSeq at q) ((behavior scene s).after ctx r)
+            if knows_yes ((walk step s).ended ctx r)
+            then rest_in_first (residing step) ctx (walks parts) next mark.Zero
+            else option_map (λ q. InSeq at q) ((walk step s).after ctx r)
             )) place
             ≡ is_driven (move_all (mirrors (s ∷ parts)) control false) place
         rests_by ctx at next place true e =
             ap (λ k. contains (places_at (
-            if knows_yes k then rest_in_first ctx (behaviors parts) next mark.Zero else option_map (λ q. InSeq at q) ((behavior scene s).after ctx r)
+            if knows_yes k then rest_in_first (residing step) ctx (walks parts) next mark.Zero else option_map (λ q. InSeq at q) ((walk step s).after ctx r)
             )) place) (resumed.ended ctx ∙ ap (λ b. Known (truth_of b)) e)
-            ∙ rests_all scene other ctx mark.Zero parts starts.1 next place
+            ∙ rests_all step ctx mark.Zero parts starts.1 next place
             ∙ sym (moved place
             ∙ ap₂ (λ a b. a || b) (h.0.moves_none control r fits own e place) (ap (λ b. is_driven (enter_all (mirrors parts) b) place) e))
         rests_by ctx at next place false e =
             ap (λ k. contains (places_at (
-            if knows_yes k then rest_in_first ctx (behaviors parts) next mark.Zero else option_map (λ q. InSeq at q) ((behavior scene s).after ctx r)
+            if knows_yes k then rest_in_first (residing step) ctx (walks parts) next mark.Zero else option_map (λ q. InSeq at q) ((walk step s).after ctx r)
             )) place) (resumed.ended ctx ∙ ap (λ b. Known (truth_of b)) e)
-            ∙ ap (λ numbers. contains numbers place) (places_at-in_seq at ((behavior scene s).after ctx r))
+            ∙ ap (λ numbers. contains numbers place) (places_at-in_seq at ((walk step s).after ctx r))
             ∙ resumed.rests ctx place
             ∙ sym (moved place
             ∙ ap (λ b. is_driven ((mirror_of s).move control) place || b)
-            (ap (λ b. is_driven (enter_all (mirrors parts) b) place) e ∙ unentered_all scene other parts starts.1 place)
+            (ap (λ b. is_driven (enter_all (mirrors parts) b) place) e ∙ unentered_all step parts starts.1 place)
             ∙ or-false (is_driven ((mirror_of s).move control) place))
 
     member_later : (s : Stmt) (parts : List Stmt) → Starts (s ∷ parts) → Resumes (s ∷ parts) → (number : ℕ) (r : Residual)
@@ -240,14 +248,14 @@ module _ (scene other : Scene) where
             ∙ ap₂ (λ a b. a || b) (starts.0.unentered place) (ap (λ b. is_driven (move_all (mirrors parts) control b) place) still.ended))
 
     pub member_resumes : (parts : List Stmt) → Starts parts → Resumes parts → AreDifferent (places_of_all parts) → (number : ℕ) (r : Residual)
-        → nat_lt number (length (behaviors parts)) ≡ true → (member (behaviors parts) number).fits r ≡ true
+        → nat_lt number (length (layouts parts)) ≡ true → (member bare (layouts parts) number).fits r ≡ true
         → IsControl control (places_of_all parts) (resting_places r) → Member parts number r
     member_resumes [] starts h different number r there fits at = absurd (false≢true (grind arith))
     member_resumes (s ∷ parts) starts h different zero r there fits at =
         member_first s parts starts h r fits (control_left control (places_of s) (places_of_all parts) (resting_places r) at)
         (away_right control (places_of s) (places_of_all parts) (resting_places r) different (h.0.within r fits) at)
     member_resumes (s ∷ parts) starts h different (suc number) r there fits at =
-        let lower = below number (length (behaviors parts)) there in
+        let lower = below number (length (layouts parts)) there in
         member_later s parts starts h number r
         (away_left control (places_of s) (places_of_all parts) (resting_places r) different (member_within parts h.1 number r lower fits) at)
         (member_resumes parts starts.1 h.1 (different_right (places_of s) (places_of_all parts) different) number r lower fits

@@ -1,29 +1,47 @@
 -- When a Verilog module does a program.
-use Rattle.std.specs.Prelude.{ℕ, ◌≡◌, Bool, List, [], map, length, replicate}
+use Rattle.std.specs.Prelude.{◌≡◌, Bool, List, [], map, filter, length}
+use Rattle.std.specs.List.{AllByRecursion}
 use Rattle.qz_values.specs.declared.Value.{Value}
 use Rattle.qz_values.specs.Values.{truth_of}
+use Rattle.qz_syntax.specs.declared.declarations.Dir.{Dir}
+use Rattle.qz_syntax.specs.declared.declarations.Dir.TheVariants as dir
 use Rattle.qz_syntax.specs.declared.declarations.Formal.{Formal}
 use Rattle.qz_syntax.specs.declared.declarations.Port.{Port}
 use Rattle.qz_syntax.specs.declared.modules.Module.{Module}
-use Rattle.qz_meaning.specs.Programs.{program_of}
+use Rattle.qz_meaning.specs.Programs.{is_same_direction, program_of}
+use Rattle.qz_meaning.specs.Configurations.{IsRow}
 use Rattle.qz_meaning.specs.Runs.{IsOnlyRun}
 use Rattle.qz_driver.specs.declared.verilog.VModule.{VModule}
 use Rattle.qz_driver.specs.Verilog.{IsVerilogRun}
 
--- one output as a port
+-- one formal as a port
 abbrev pub port_of : Formal → Port
 port_of formal = record { name = formal.name; ty = formal.ty }
+
+-- the formals of one direction as ports, in their order
+abbrev pub ports_of : Dir → List Formal → List Port
+ports_of d formals = map port_of (filter (λ (formal : Formal). is_same_direction formal.dir d) formals)
+
+-- the inputs beside the clock: a module has none yet
+abbrev pub inputs_of : VModule → List Port
+inputs_of v = []
+
+-- over these rows of inputs the module has these rows of outputs; without inputs it has a clock for each row
+pub record RunsOver (v : VModule) (rows : List (List Value)) (outs : List (List Bool)) : Type 0 where
+  pub clocks : IsVerilogRun v outs
+  pub each : length outs ≡ length rows
 
 -- rows of bits as rows of values
 abbrev pub values_of : List (List Bool) → List (List Value)
 values_of rows = map (λ row. map truth_of row) rows
 
--- Its name and outputs are the module's in order, name and type. It has runs of every length, and for
--- every list of input rows, which are empty, the program has exactly one run, whose outputs are those of
--- each run of the Verilog module of that length, row by row.
+-- Its name, its inputs and its outputs are the module's in order, name and type. Over every list of rows of
+-- inputs it has a run, and the program has exactly one, whose outputs are those of each run of the Verilog
+-- module, row by row.
 pub record DoesProgram (v : VModule) (m : Module) : Type 0 where
   pub name : v.name ≡ m.name
-  pub outputs : v.outputs ≡ map port_of m.formals
-  pub runs : (steps : ℕ) → (rows : List (List Bool)) × IsVerilogRun v rows × (length rows ≡ steps)
-  pub same : (rows : List (List Bool)) → IsVerilogRun v rows
-      → IsOnlyRun (program_of m) (replicate (length rows) []) (values_of rows)
+  pub inputs : inputs_of v ≡ ports_of dir.In m.formals
+  pub outputs : v.outputs ≡ ports_of dir.Out m.formals
+  pub runs : (rows : List (List Value)) → AllByRecursion (IsRow (program_of m)) rows → (outs : List (List Bool)) × RunsOver v rows outs
+  pub same : (rows : List (List Value)) → AllByRecursion (IsRow (program_of m)) rows → (outs : List (List Bool))
+      → RunsOver v rows outs → IsOnlyRun (program_of m) rows (values_of outs)

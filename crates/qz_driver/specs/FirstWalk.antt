@@ -5,8 +5,11 @@ use Rattle.qz_values.specs.Values.{yes, truth_of}
 use Rattle.qz_syntax.specs.declared.places.Mark.{Mark}
 use Rattle.qz_syntax.specs.declared.places.Residual.{Residual}
 use Rattle.qz_meaning.specs.Instances.{formal_instance}
-use Rattle.qz_meaning.specs.Scenes.{Context, contains}
-use Rattle.qz_meaning.specs.Behaviors.{Write, Behavior}
+use Rattle.qz_syntax.specs.Numbers.{contains}
+use Rattle.qz_meaning.specs.Scenes.{Context}
+use Rattle.qz_meaning.specs.Accounts.{Write}
+use Rattle.qz_meaning.specs.Layouts.{Layout}
+use Rattle.qz_meaning.specs.Residing.{Walk}
 use Rattle.qz_meaning.specs.Valuations.{resting_places}
 use Rattle.qz_driver.specs.Mirror.{Bits, Mirror, is_driven}
 
@@ -23,14 +26,14 @@ places_at None = []
 places_at (Some r) = resting_places r
 
 -- control can rest so, where it rests
-abbrev pub CanRest : Behavior → Option Residual → Type 0
-CanRest body None = Unit {0}
-CanRest body (Some r) = IsTrue (body.fits r)
+abbrev pub CanRest : Layout → Option Residual → Type 0
+CanRest l None = Unit {0}
+CanRest l (Some r) = IsTrue (l.fits r)
 
 -- started, the walk ends where the bit says so, has the bits' writes, leaves control at the places that
 -- the bits name, and meets no instance
-pub record StartsAs (body : Behavior) (mirror : Mirror) : Type 0 where
+pub record StartsAs (body : Walk) (l : Layout) (mirror : Mirror) : Type 0 where
   pub ends : (ctx : Context) (m : Mark) → body.ends ctx m ≡ Known (truth_of mirror.at_once)
   pub writes : (ctx : Context) (g : Bool) (m : Mark) → body.start ctx (Known (truth_of g)) m ≡ writes_of (mirror.start g)
   pub rests : (ctx : Context) (m : Mark) (place : ℕ) → contains (places_at (body.rest ctx m)) place ≡ is_driven (mirror.enter true) place
-  pub meets : (m : Mark) → body.met_on_start m ≡ []
+  pub meets : (m : Mark) → l.met_on_start m ≡ []

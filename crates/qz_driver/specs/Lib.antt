@@ -21,7 +21,6 @@ pub mod BitRuns
 pub mod Verilog
 pub mod VerilogLaws
 pub mod Does
-pub mod Definite
 pub mod VerilogText
 pub mod WireTable
 pub mod Driven

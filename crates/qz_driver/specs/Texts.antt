@@ -2,11 +2,11 @@
 use Rattle.std.specs.Prelude.{ℕ, ◌≡◌, List}
 use Rattle.qz_syntax.specs.declared.modules.Module.{Module}
 use Rattle.qz_meaning.specs.Programs.{program_of}
+use Rattle.qz_meaning.specs.RunLaws.{IsAlwaysDefinite}
 use Rattle.qz_driver.specs.declared.verilog.VModule.{VModule}
 use Rattle.qz_driver.specs.Built.{IsModuleOf}
 use Rattle.qz_driver.specs.Verilog.{IsValid}
 use Rattle.qz_driver.specs.VerilogText.{text_of}
-use Rattle.qz_driver.specs.Definite.{IsAlwaysDefinite}
 use Rattle.qz_driver.specs.Does.{DoesProgram}
 
 -- the text of a valid Verilog module that does the program, which is definite at every permitted valuation

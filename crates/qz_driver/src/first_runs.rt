@@ -5,33 +5,34 @@ ghost use Rattle.qz_syntax.specs.declared.statements.Stmt.{Stmt};
 ghost use Rattle.qz_syntax.specs.declared.places.Residual.{Residual};
 ghost use Rattle.qz_syntax.specs.declared.modules.Module.{Module};
 ghost use Rattle.qz_syntax.specs.Numbers.{places_of};
-ghost use Rattle.qz_meaning.specs.Scenes.{Scene};
-ghost use Rattle.qz_meaning.specs.Walks.{behavior};
+ghost use Rattle.qz_meaning.specs.Scenes.{Passing};
+ghost use Rattle.qz_meaning.specs.Residing.{walk, whole_layout};
+ghost use Rattle.qz_meaning.specs.LayoutLaws.{AreDifferent};
+ghost use Rattle.qz_meaning.specs.RunLaws.{IsAlwaysDefinite};
 ghost use Rattle.qz_meaning.specs.Valuations.{resting_places};
 ghost use Rattle.qz_driver.specs.Mirror.{Control, mirror_of};
 ghost use Rattle.qz_driver.specs.FirstLanguage.{is_first, IsFirst};
 ghost use Rattle.qz_driver.specs.FirstWalk.{StartsAs};
-ghost use Rattle.qz_driver.specs.FirstResumes.{AreDifferent, IsControl, ResumesAs, IsStill};
+ghost use Rattle.qz_driver.specs.FirstResumes.{IsControl, ResumesAs, IsStill};
 ghost use Rattle.qz_driver.specs.declared.verilog.VModule.{VModule};
 ghost use Rattle.qz_driver.specs.Verilog.{IsValid};
 ghost use Rattle.qz_driver.specs.Implements.{Implements};
 ghost use Rattle.qz_meaning.specs.Programs.{program_of};
 ghost use Rattle.qz_driver.specs.Does.{DoesProgram};
-ghost use Rattle.qz_driver.specs.Definite.{IsAlwaysDefinite};
 
 /// A start of a statement of the first language is as its bits say.
 pub fn starts_as_its_bits()
-    ensures { (outputs : ℕ) (s : Stmt) → IsTrue (is_first outputs s) → (scene : Scene) →
-        StartsAs (behavior scene s) (mirror_of s) }
+    ensures { (outputs : ℕ) (s : Stmt) → IsTrue (is_first outputs s) → (step : Passing) →
+        StartsAs (walk step s) (whole_layout s) (mirror_of s) }
 {}
 
 /// A statement of the first language, whose places are all different, is resumed as its bits say where
 /// control rests in it.
 pub fn resumes_as_its_bits()
     ensures { (outputs : ℕ) (s : Stmt) → IsTrue (is_first outputs s) → AreDifferent (places_of s)
-        → (scene : Scene) (control : Control) (r : Residual) → IsTrue ((behavior scene s).fits r)
+        → (step : Passing) (control : Control) (r : Residual) → IsTrue ((whole_layout s).fits r)
         → IsControl control (places_of s) (resting_places r) →
-        ResumesAs (behavior scene s) (mirror_of s) control r }
+        ResumesAs (walk step s) (whole_layout s) (mirror_of s) control r }
 {}
 
 /// Where control isn't in it, none of its bits is true.

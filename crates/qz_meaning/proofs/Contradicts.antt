@@ -1,51 +1,52 @@
-use Rattle.std.proofs.Common.{◌≡◌, ℕ, suc, [], ◌∷◌, refl, false, sym, ap, subst, ◌∙◌}
-use mathlib.Core.Path.{fun_ext}
+use Rattle.std.proofs.Common.{◌≡◌, ℕ, suc, [], ◌∷◌, false, sym, ◌∙◌}
 use Rattle.qz_values.specs.declared.Know.TheVariants.{Clash}
 use Rattle.qz_syntax.specs.declared.expressions.Expr.TheVariants as expr
 use Rattle.qz_syntax.specs.declared.expressions.Var.TheVariants as var
+use Rattle.qz_syntax.specs.declared.places.Later.TheVariants as later
 use Rattle.qz_meaning.specs.Instances.{formal_instance}
-use Rattle.qz_meaning.specs.Scenes.{Scene}
-use Rattle.qz_meaning.specs.Behaviors.{Behavior}
+use Rattle.qz_meaning.specs.Layouts.{bare}
 use Rattle.qz_meaning.specs.Simple.{assignment}
-use Rattle.qz_meaning.specs.Parallels.{parallel}
-use Rattle.qz_meaning.specs.Programs.{Program}
+use Rattle.qz_meaning.specs.Parallels.{parallel, parallel_layout}
+use Rattle.qz_meaning.specs.Residing.{residing}
+use Rattle.qz_meaning.specs.Configurations.{initial}
 use Rattle.qz_meaning.specs.Settling.{Environment}
-use Rattle.qz_meaning.specs.Rounds.{round, next_round, IsLast}
-use Rattle.qz_meaning.specs.MacroSteps.{initial}
+use Rattle.qz_meaning.specs.Rounds.{round, next_round}
 use Rattle.qz_meaning.specs.Examples.{byte}
 use Rattle.qz_meaning.specs.WriterExamples.{Contradicts, contradicting}
-use Rattle.qz_meaning.proofs.Walking.{walking}
+use Rattle.qz_meaning.proofs.Walking.{walking, laying}
+use Rattle.qz_meaning.proofs.Situations.{WrittenOut, round_now, round_later, agree_by}
 use Rattle.qz_meaning.proofs.Evaluating.{evaluating}
 
--- the program, with what its body does in the place of its tree
-abbrev contradicted : Program
-contradicted = record contradicting {
-  body = λ scene.
-      parallel
-      (assignment scene false (var.Formal 0) (expr.Lit (byte 3))
-      ∷ assignment scene false (var.Formal 0) (expr.Lit (byte 4))
+abbrev contradicted : WrittenOut contradicting
+contradicted = record {
+  does = λ step.
+      parallel (residing step)
+      (assignment step.now (residing step) false (var.Formal 0) (expr.Lit (byte 3))
+      ∷ assignment step.now (residing step) false (var.Formal 0) (expr.Lit (byte 4))
       ∷ []);
+  lays = parallel_layout (bare ∷ bare ∷ []);
+  does_is = λ step. simp walking;
+  lays_is = simp laying;
 }
 
-contradicted_body : (scene : Scene) → contradicting.body scene ≡ contradicted.body scene
-contradicted_body scene = simp walking
-
-contradicted_is : contradicting ≡ contradicted
-contradicted_is = ap (λ (body : Scene → Behavior). record contradicting { body = body }) (fun_ext contradicted_body)
-
 -- each round after the first has the clash
-next_now : (env : Environment) → (next_round contradicted (initial contradicted) [] env).now (formal_instance 0) ≡ Clash
-next_now env = simp evaluating
+next_now : (env : Environment) → (next_round contradicting (initial contradicting) [] env).now (formal_instance 0) ≡ Clash
+next_now env = round_now contradicting contradicted (initial contradicting) [] env (formal_instance 0) ∙ simp evaluating
 
-clashes : (n : ℕ) → (round contradicted (initial contradicted) [] (suc n)).now (formal_instance 0) ≡ Clash
-clashes n = next_now (round contradicted (initial contradicted) [] n)
+next_later : (env : Environment) → (next_round contradicting (initial contradicting) [] env).later (formal_instance 0) ≡ later.Absent
+next_later env = round_later contradicting contradicted (initial contradicting) [] env (formal_instance 0)
 
-last : IsLast contradicted (initial contradicted) [] 1
-last = (record { now = clashes 0 ∙ sym (clashes 1); later = refl }, tt)
+clashes : (n : ℕ) → (round contradicting (initial contradicting) [] (suc n)).now (formal_instance 0) ≡ Clash
+clashes n = next_now (round contradicting (initial contradicting) [] n)
 
 pub contradicts : Contradicts
 contradicts = record {
-  last = subst (λ (p : Program). IsLast p (initial p) [] 1) (sym contradicted_is) last;
-  clashes =
-      subst (λ (p : Program). (round p (initial p) [] 1).now (formal_instance 0) ≡ Clash) (sym contradicted_is) (clashes 0);
+  last = agree_by contradicting contradicted (initial contradicting) _ _ (
+    record {
+      now = clashes 0 ∙ sym (clashes 1);
+      later = next_later (round contradicting (initial contradicting) [] 0) ∙ sym (next_later (round contradicting (initial contradicting) [] 1));
+    },
+    tt,
+  );
+  clashes = clashes 0;
 }

@@ -1,145 +1,170 @@
-use Rattle.std.proofs.Common.{◌≡◌, ℕ, suc, zero, List, [], ◌∷◌, map, refl, ap, sym, subst, ◌∙◌, false}
+use Rattle.std.proofs.Common.{◌≡◌, ℕ, suc, zero, Bool, true, ◌&&◌, List, [], ◌∷◌, Some, None, refl, ap, ap₂, sym, subst, ◌∙◌, false}
 use Rattle.std.specs.Prelude.{replicate}
-use mathlib.Core.Path.{fun_ext}
+use Rattle.std.specs.List.{AllByRecursion}
 use Rattle.qz_values.specs.declared.Ty.TheVariants as ty
 use Rattle.qz_values.specs.declared.Value.{Value}
-use Rattle.qz_values.specs.declared.Know.{Know}
 use Rattle.qz_values.specs.declared.Know.TheVariants.{Known}
 use Rattle.qz_values.specs.Values.{yes}
 use Rattle.qz_syntax.specs.declared.expressions.Var.TheVariants as var
 use Rattle.qz_syntax.specs.declared.places.Later.TheVariants as later
+use Rattle.qz_syntax.specs.declared.statements.Stmt.TheVariants as stmt
+use Rattle.qz_syntax.specs.Typing.{Declared, Sight, no_sight, is_condition}
+use Rattle.qz_syntax.specs.Sound.{type_at, node_is_sound, is_sound}
+use Rattle.qz_syntax.specs.WellFormed.{declared_by, IsWellFormed}
+use Rattle.qz_syntax.proofs.Equations.{fold-Lit, fold-Assign, fold-Pause, fold-Seq, fold-Loop}
 use Rattle.qz_meaning.specs.Instances.{formal_instance}
-use Rattle.qz_meaning.specs.Scenes.{Scene, new_store}
-use Rattle.qz_meaning.specs.Behaviors.{Met, Behavior}
-use Rattle.qz_meaning.specs.Simple.{assignment, pause}
-use Rattle.qz_meaning.specs.Sequences.{sequence}
-use Rattle.qz_meaning.specs.Loops.{repetition}
-use Rattle.qz_meaning.specs.Programs.{Program}
-use Rattle.qz_meaning.specs.Settling.{Configuration, Environment, step_writes, settles_now}
-use Rattle.qz_meaning.specs.Rounds.{round, next_round, IsKnown, IsDefinite}
-use Rattle.qz_meaning.specs.MacroSteps.{initial, IsStep, next_configuration}
-use Rattle.qz_meaning.specs.Runs.{RunsFrom}
-use Rattle.qz_meaning.specs.Examples.{always, always_emitted, at_its_pause, StartsDefinite, EmitsInOneRun}
-use Rattle.qz_meaning.proofs.Walking.{walking}
+use Rattle.qz_meaning.specs.Scenes.{default_store}
+use Rattle.qz_meaning.specs.Accounts.{Write}
+use Rattle.qz_meaning.specs.Layouts.{Met, bare}
+use Rattle.qz_meaning.specs.Simple.{assignment, pause, pause_layout}
+use Rattle.qz_meaning.specs.Sequences.{sequence, sequence_layout}
+use Rattle.qz_meaning.specs.Loops.{loop, loop_layout}
+use Rattle.qz_meaning.specs.Residing.{residing}
+use Rattle.qz_meaning.specs.Configurations.{Configuration, IsValuationOf, initial}
+use Rattle.qz_meaning.specs.Settling.{Environment, met_as}
+use Rattle.qz_meaning.specs.Rounds.{now_or_unknown, later_or_unknown, round, next_round, IsKnown, IsKnownOrAbsent, IsPlainAt, IsDefinite}
+use Rattle.qz_meaning.specs.MacroSteps.{IsStep}
+use Rattle.qz_meaning.specs.Runs.{RunsFrom, IsOnlyRun}
+use Rattle.qz_meaning.specs.StepLaws.{HasOneStep}
+use Rattle.qz_meaning.specs.RunLaws.{IsDefiniteFrom}
+use Rattle.qz_meaning.specs.Examples.{always, emit, emitting, always_emitted, at_its_pause, StartsDefinite, EmitsInOneRun}
+use Rattle.qz_meaning.proofs.OneStep.{one_step}
+use Rattle.qz_meaning.proofs.OneRun.{one_run}
+use Rattle.qz_meaning.proofs.Walking.{walking, laying}
+use Rattle.qz_meaning.proofs.Situations.{at_first, at_rest, WrittenOut, met_by, writes_by, rests, round_now, round_later, agree_by, met_is}
 use Rattle.qz_meaning.proofs.Evaluating.{evaluating}
 use Rattle.qz_meaning.proofs.Resting.{resting}
+use Rattle.qz_meaning.proofs.Folding.{folding}
 use Rattle.qz_meaning.proofs.EmitsAlways.{emits_always}
 
--- the program, with what its body does in the place of its tree
-abbrev emitting : Program
-emitting = record always_emitted {
-  body = λ scene. repetition scene 0 (sequence (assignment scene false (var.Formal 0) always ∷ pause 0 ∷ [])) always;
+abbrev emits : WrittenOut always_emitted
+emits = record {
+  does = λ step. loop step.now (residing step) 0 (sequence (residing step) (assignment step.now (residing step) false (var.Formal 0) always ∷ pause (residing step) 0 ∷ [])) always;
+  lays = loop_layout 0 (sequence_layout (bare ∷ pause_layout 0 ∷ []));
+  does_is = λ step. simp walking;
+  lays_is = simp laying;
 }
 
-emitting_body : (scene : Scene) → always_emitted.body scene ≡ emitting.body scene
-emitting_body scene = simp walking
-
-emitting_is : always_emitted ≡ emitting
-emitting_is = ap (λ (body : Scene → Behavior). record always_emitted { body = body }) (fun_ext emitting_body)
-
 abbrev o_met : Met
-o_met = record { instance = formal_instance 0; store = new_store ty.Bool }
+o_met = record { instance = formal_instance 0; store = Some (default_store ty.Bool) }
 
-first_yes : (env : Environment) → settles_now emitting (step_writes emitting (initial emitting) env) o_met ≡ Known yes
-first_yes env = simp evaluating
+abbrev o_is_yes : Write
+o_is_yes = record { target = formal_instance 0; delayed = false; guard = Known yes; value = Known yes }
 
-first_next : (env : Environment) → env.later (formal_instance 0) ≡ later.Absent → next_configuration emitting (initial emitting) env ≡ at_its_pause
-first_next env h = rw h refl
+-- where `o` alone is met and emitted
+module _ (c : Configuration) (valuation : IsValuationOf always_emitted c []) (met : met_by always_emitted emits c ≡ o_met ∷ [])
+    (writes : (env : Environment) → writes_by always_emitted emits c env ≡ o_is_yes ∷ []) where
+  -- each round after the first knows the output
+  round_yes : (env : Environment) → (next_round always_emitted c [] env).now (formal_instance 0) ≡ Known yes
+  round_yes env =
+      round_now always_emitted emits c [] env (formal_instance 0)
+      ∙ ap₂ (λ (ws : List Write) (mets : List Met). now_or_unknown always_emitted ws None (met_as (formal_instance 0) mets)) (writes env) met
 
-again_next : (env : Environment) → env.later (formal_instance 0) ≡ later.Absent → next_configuration emitting at_its_pause env ≡ at_its_pause
-again_next env h = simp (evaluating, resting, h)
+  round_absent : (env : Environment) → (next_round always_emitted c [] env).later (formal_instance 0) ≡ later.Absent
+  round_absent env =
+      round_later always_emitted emits c [] env (formal_instance 0)
+      ∙ ap₂ (λ (ws : List Write) (mets : List Met). later_or_unknown ws (met_as (formal_instance 0) mets)) (writes env) met
 
--- outputs of which the one is known to be true
-only_yes : (k : Know) (out : List Value) → k ≡ Known yes → k ∷ [] ≡ map (λ v. Known v) out → out ≡ yes ∷ []
-only_yes k [] h e = cc
-only_yes k (v ∷ []) h e = cc
-only_yes k (v ∷ (w ∷ out)) h e = cc
+  abbrev first : Environment
+  first = round always_emitted c [] 0
 
--- a step from either configuration has this output, and leads to the pause
-first_is : (out : List Value) (next : Configuration) → IsStep emitting (initial emitting) [] out next → (out ≡ yes ∷ []) × (next ≡ at_its_pause)
-first_is out next s = (
-  only_yes (s.values.now (formal_instance 0)) out (s.solution.settled.0.now ∙ first_yes s.values) s.outputs_are,
-  s.next_is ∙ first_next s.values s.solution.settled.0.later,
+  abbrev second : Environment
+  second = round always_emitted c [] 1
+
+  definite : IsDefinite always_emitted c []
+  definite = record {
+    valuation = valuation;
+    least = second;
+    is_least = record {
+      number = 1;
+      last = agree_by always_emitted emits c _ _ (rw met (
+        record {
+          now = round_yes first ∙ sym (round_yes second);
+          later = round_absent first ∙ sym (round_absent second);
+        },
+        tt,
+      ));
+      is = refl;
+    };
+    plain = subst (λ (mets : List Met). AllByRecursion (IsPlainAt second) mets) (sym (met_is always_emitted emits c ∙ met)) (
+      record {
+        now = subst IsKnown (sym (round_yes first)) tt;
+        later = subst IsKnownOrAbsent (sym (round_absent first)) tt;
+      },
+      tt,
+    );
+  }
+
+pub starts_definite : StartsDefinite
+starts_definite = definite (initial always_emitted) (at_first always_emitted [] refl) refl (λ env. simp evaluating)
+
+rests_definite : IsDefinite always_emitted at_its_pause []
+rests_definite =
+    definite at_its_pause (at_rest always_emitted _ _ [] (rests always_emitted emits _ (simp resting)) refl refl) (simp resting) (λ env. simp (evaluating, resting))
+
+abbrev declared : Declared
+declared = declared_by [] emitting
+
+emit_sound : is_sound declared (emit 0) no_sight ≡ true
+emit_sound = ap (λ (f : Sight → Bool). f no_sight) (fold-Assign (Sight → Bool) (node_is_sound declared) (var.Formal 0) always) ∙ simp fold-Lit
+
+pause_sound : is_sound declared (stmt.Pause 0) no_sight ≡ true
+pause_sound = ap (λ (f : Sight → Bool). f no_sight) (fold-Pause (Sight → Bool) (node_is_sound declared) 0)
+
+body_sound : is_sound declared (stmt.Seq (emit 0 ∷ stmt.Pause 0 ∷ [])) no_sight ≡ true
+body_sound =
+    ap (λ (f : Sight → Bool). f no_sight) (fold-Seq (Sight → Bool) (node_is_sound declared) (emit 0 ∷ stmt.Pause 0 ∷ []))
+    ∙ ap₂ (λ (a b : Bool). a && (b && true)) emit_sound pause_sound
+
+loop_sound : is_sound declared emitting.body no_sight ≡ true
+loop_sound =
+    ap (λ (f : Sight → Bool). f no_sight) (fold-Loop (Sight → Bool) (node_is_sound declared) 0 (stmt.Seq (emit 0 ∷ stmt.Pause 0 ∷ [])) always)
+    ∙ ap₂ (λ (a b : Bool). a && b) (let known : is_condition (type_at declared no_sight always) ≡ true = simp fold-Lit in known) body_sound
+
+well : IsWellFormed [] emitting
+well = record {
+  numbered = record { places = simp folding; loops = simp folding; locals = simp folding; calls = simp folding };
+  unlabelled = simp folding;
+  proto_types = refl;
+  formal_types = refl;
+  local_types = refl;
+  sound = loop_sound;
+}
+
+-- every step leads to the pause
+comes_to : (c : Configuration) → IsDefinite always_emitted c [] → IsStep always_emitted c [] (yes ∷ []) at_its_pause
+    → (out : List Value) (next : Configuration) → IsStep always_emitted c [] out next → at_its_pause ≡ next
+comes_to c here there out next step =
+    let one : HasOneStep always_emitted c [] = one_step emitting well c [] here in
+    one.only_next (yes ∷ []) at_its_pause there ∙ sym (one.only_next out next step)
+
+definite_again : (n : ℕ) → IsDefiniteFrom always_emitted at_its_pause (replicate n [])
+definite_again zero = tt
+definite_again (suc n) = (
+  rests_definite,
+  λ out next step.
+      subst (λ (c : Configuration). IsDefiniteFrom always_emitted c (replicate n [])) (comes_to at_its_pause rests_definite emits_always.again out next step) (definite_again n),
 )
 
-again_settled : (out : List Value) (next : Configuration) (s : IsStep emitting at_its_pause [] out next)
-    → (s.values.now (formal_instance 0) ≡ Known yes) × (s.values.later (formal_instance 0) ≡ later.Absent)
-again_settled out next s = let settled = simp (evaluating, resting) at s.solution.settled in (settled.0.now, settled.0.later)
+definite_first : (n : ℕ) → IsDefiniteFrom always_emitted (initial always_emitted) (replicate n [])
+definite_first zero = tt
+definite_first (suc n) = (
+  starts_definite,
+  λ out next step.
+      subst (λ (c : Configuration). IsDefiniteFrom always_emitted c (replicate n []))
+      (comes_to (initial always_emitted) starts_definite emits_always.first out next step) (definite_again n),
+)
 
-again_is : (out : List Value) (next : Configuration) → IsStep emitting at_its_pause [] out next → (out ≡ yes ∷ []) × (next ≡ at_its_pause)
-again_is out next s =
-    let settled = again_settled out next s in
-    (only_yes (s.values.now (formal_instance 0)) out settled.0 s.outputs_are, s.next_is ∙ again_next s.values settled.1)
-
--- the runs from the pause
+-- the runs that there are
 runs_again : (n : ℕ) → RunsFrom always_emitted at_its_pause (replicate n []) (replicate n (yes ∷ [])) (replicate n at_its_pause)
 runs_again zero = tt
 runs_again (suc n) = (emits_always.again, runs_again n)
-
-only_again : (n : ℕ) (outs : List (List Value)) (passed : List Configuration)
-    → RunsFrom emitting at_its_pause (replicate n []) outs passed
-    → (outs ≡ replicate n (yes ∷ [])) × (passed ≡ replicate n at_its_pause)
-only_again zero [] [] run = (refl, refl)
-only_again zero [] (next ∷ passed) run = absurd run
-only_again zero (out ∷ outs) passed run = absurd run
-only_again (suc n) [] passed run = absurd run
-only_again (suc n) (out ∷ outs) [] run = absurd run
-only_again (suc n) (out ∷ outs) (next ∷ passed) run =
-    let step = again_is out next run.0 in
-    let rest = only_again n outs passed (subst (λ (c : Configuration). RunsFrom emitting c (replicate n []) outs passed) step.1 run.1) in
-    (cc, cc)
 
 runs_first : (n : ℕ) → RunsFrom always_emitted (initial always_emitted) (replicate n []) (replicate n (yes ∷ [])) (replicate n at_its_pause)
 runs_first zero = tt
 runs_first (suc n) = (emits_always.first, runs_again n)
 
-only_first : (n : ℕ) (outs : List (List Value)) (passed : List Configuration)
-    → RunsFrom emitting (initial emitting) (replicate n []) outs passed
-    → (outs ≡ replicate n (yes ∷ [])) × (passed ≡ replicate n at_its_pause)
-only_first zero [] [] run = (refl, refl)
-only_first zero [] (next ∷ passed) run = absurd run
-only_first zero (out ∷ outs) passed run = absurd run
-only_first (suc n) [] passed run = absurd run
-only_first (suc n) (out ∷ outs) [] run = absurd run
-only_first (suc n) (out ∷ outs) (next ∷ passed) run =
-    let step = first_is out next run.0 in
-    let rest = only_again n outs passed (subst (λ (c : Configuration). RunsFrom emitting c (replicate n []) outs passed) step.1 run.1) in
-    (cc, cc)
-
-only_one : (n : ℕ) (outs : List (List Value)) (passed : List Configuration)
-    → RunsFrom always_emitted (initial always_emitted) (replicate n []) outs passed
-    → (outs ≡ replicate n (yes ∷ [])) × (passed ≡ replicate n at_its_pause)
-only_one n outs passed run =
-    only_first n outs passed (subst (λ (p : Program). RunsFrom p (initial p) (replicate n []) outs passed) emitting_is run)
-
 pub emits_in_one_run : EmitsInOneRun
-emits_in_one_run n = record {
-  passed = replicate n at_its_pause;
-  runs = runs_first n;
-  only_outputs = λ outs run. (only_one n outs run.0 run.1).0;
-  only_way = λ outs passed run. (only_one n outs passed run).1;
-}
-
--- each round after the first knows the output
-round_yes : (env : Environment) → (next_round emitting (initial emitting) [] env).now (formal_instance 0) ≡ Known yes
-round_yes env = simp evaluating
-
-definite : IsDefinite emitting (initial emitting) []
-definite = record {
-  least = round emitting (initial emitting) [] 1;
-  is_least = record {
-    number = 1;
-    last = (
-      record {
-        now = round_yes (round emitting (initial emitting) [] 0) ∙ sym (round_yes (round emitting (initial emitting) [] 1));
-        later = refl;
-      },
-      tt,
-    );
-    is = refl;
-  };
-  plain = (record { now = subst IsKnown (sym (round_yes (round emitting (initial emitting) [] 0))) tt; later = tt }, tt);
-}
-
-pub starts_definite : StartsDefinite
-starts_definite = subst (λ (p : Program). IsDefinite p (initial p) []) (sym emitting_is) definite
+emits_in_one_run n =
+    let run = one_run emitting well (replicate n []) (definite_first n) in
+    subst (IsOnlyRun always_emitted (replicate n [])) (sym (run.1.only_outputs (replicate n (yes ∷ [])) (replicate n at_its_pause, runs_first n))) run.1

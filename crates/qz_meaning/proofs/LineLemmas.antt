@@ -8,7 +8,7 @@ use Rattle.qz_values.specs.declared.Know.TheVariants.{Unknown, Known, Clash}
 use Rattle.qz_values.specs.Values.{is_yes}
 use Rattle.qz_values.specs.Knowledge.{knows_yes}
 use Rattle.qz_meaning.specs.Instances.{Instance}
-use Rattle.qz_meaning.specs.Behaviors.{Write}
+use Rattle.qz_meaning.specs.Accounts.{Write}
 use Rattle.qz_meaning.specs.Verdicts.{Verdict, Nobody, Open, One, Torn, is_same_value, enabled, verdict_of_one, join, is_to, tally, verdict}
 use Rattle.qz_meaning.specs.VerdictLaws.{writes_to, IsIdle, IsTorn, SomeWrite, IsGiven, NoLineHolds, IsByLines}
 use Rattle.qz_meaning.proofs.JoinLemmas.{same-is_same_value, is_same_value-self, tally-join}
@@ -113,7 +113,7 @@ abbrev Rests : Know → Type 0
 Rests g = (h : Value) × (g ≡ Known h) × (is_yes h ≡ false)
 
 isnt_idle : (h : Value) → is_yes h ≡ true → Rests (Known h) → ⊥
-isnt_idle h e (other, is, refused) = let same : h ≡ other = cc in let two : is_yes h ≡ is_yes other = ap is_yes same in cc
+isnt_idle h e (other, is, body_guard) = let same : h ≡ other = cc in let two : is_yes h ≡ is_yes other = ap is_yes same in cc
 
 says_guarded : (h : Value) (v : Know) (b : Bool) → is_yes h ≡ b
     → Says (Tears (Known h) v) (Brings (Known h) v) (Rests (Known h)) (if b then enabled v else Nobody)
@@ -131,9 +131,9 @@ says_guarded h Clash true e = (inl (inr (e, refl)), isnt_idle h e)
 
 says_one : (g v : Know) → Says (Tears g v) (Brings g v) (Rests g) (verdict_of_one g v)
 says_one Unknown v =
-    (in_either (λ clash. cc) (λ torn. let yes : false ≡ true = torn.0 in cc), (λ u given. let yes : false ≡ true = given.0 in cc), (λ (h, is, refused). cc))
+    (in_either (λ clash. cc) (λ torn. let yes : false ≡ true = torn.0 in cc), (λ u given. let yes : false ≡ true = given.0 in cc), (λ (h, is, body_guard). cc))
 says_one (Known h) v = says_guarded h v (is_yes h) refl
-says_one Clash v = (inl (inl refl), (λ (h, is, refused). cc))
+says_one Clash v = (inl (inl refl), (λ (h, is, body_guard). cc))
 
 -- the verdict of writes to one target
 come_to : List Write → Verdict

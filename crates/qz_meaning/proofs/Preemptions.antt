@@ -2,7 +2,8 @@ use Rattle.std.proofs.Common.{[], ◌∷◌, refl}
 use Rattle.qz_meaning.specs.Instances.{formal_instance}
 use Rattle.qz_meaning.specs.Examples.{with_true}
 use Rattle.qz_meaning.specs.PreemptionExamples.{AbortsStrongly, AbortsWeakly, LeavesAtOnce, LeavesAfterActing, IsHeldBack}
-use Rattle.qz_meaning.proofs.Walking.{walking}
+use Rattle.qz_meaning.proofs.Walking.{walking, laying}
+use Rattle.qz_meaning.proofs.Situations.{at_first, at_rest, at_end}
 use Rattle.qz_meaning.proofs.Evaluating.{evaluating}
 use Rattle.qz_meaning.proofs.Resting.{resting}
 
@@ -11,9 +12,10 @@ aborts_strongly = record {
   first = record {
     values = with_true (formal_instance 1 ∷ []);
     solution = record {
+      valuation = at_first _ _ refl;
       inputs = refl;
-      plain = simp (walking, evaluating) (record { now = tt; later = tt }, (record { now = tt; later = tt }, tt));
-      settled = simp (walking, evaluating) (record { now = refl; later = refl }, (record { now = refl; later = refl }, tt));
+      plain = simp laying (record { now = tt; later = tt }, (record { now = tt; later = tt }, tt));
+      settled = simp (walking, laying, evaluating) (record { now = refl; later = refl }, (record { now = refl; later = refl }, tt));
     };
     outputs_are = refl;
     next_is = simp walking;
@@ -21,9 +23,10 @@ aborts_strongly = record {
   second = record {
     values = with_true (formal_instance 0 ∷ []);
     solution = record {
+      valuation = at_rest _ _ _ _ (simp (laying, resting)) refl refl;
       inputs = refl;
-      plain = simp (walking, evaluating, resting) (record { now = tt; later = tt }, (record { now = tt; later = tt }, tt));
-      settled = simp (walking, evaluating, resting) (record { now = refl; later = refl }, (record { now = refl; later = refl }, tt));
+      plain = simp (laying, resting) (record { now = tt; later = tt }, (record { now = tt; later = tt }, tt));
+      settled = simp (walking, laying, evaluating, resting) (record { now = refl; later = refl }, (record { now = refl; later = refl }, tt));
     };
     outputs_are = refl;
     next_is = simp (walking, evaluating, resting);
@@ -31,6 +34,7 @@ aborts_strongly = record {
   third = record {
     values = with_true ([]);
     solution = record {
+      valuation = at_end _ _ _ refl refl;
       inputs = refl;
       plain = (record { now = tt; later = tt }, (record { now = tt; later = tt }, tt));
       settled = (record { now = refl; later = refl }, (record { now = refl; later = refl }, tt));
@@ -45,9 +49,10 @@ aborts_weakly = record {
   first = record {
     values = with_true (formal_instance 1 ∷ []);
     solution = record {
+      valuation = at_first _ _ refl;
       inputs = refl;
-      plain = simp (walking, evaluating) (record { now = tt; later = tt }, (record { now = tt; later = tt }, tt));
-      settled = simp (walking, evaluating) (record { now = refl; later = refl }, (record { now = refl; later = refl }, tt));
+      plain = simp laying (record { now = tt; later = tt }, (record { now = tt; later = tt }, tt));
+      settled = simp (walking, laying, evaluating) (record { now = refl; later = refl }, (record { now = refl; later = refl }, tt));
     };
     outputs_are = refl;
     next_is = simp walking;
@@ -55,9 +60,10 @@ aborts_weakly = record {
   second = record {
     values = with_true (formal_instance 0 ∷ formal_instance 2 ∷ []);
     solution = record {
+      valuation = at_rest _ _ _ _ (simp (laying, resting)) refl refl;
       inputs = refl;
-      plain = simp (walking, evaluating, resting) (record { now = tt; later = tt }, (record { now = tt; later = tt }, tt));
-      settled = simp (walking, evaluating, resting) (record { now = refl; later = refl }, (record { now = refl; later = refl }, tt));
+      plain = simp (laying, resting) (record { now = tt; later = tt }, (record { now = tt; later = tt }, tt));
+      settled = simp (walking, laying, evaluating, resting) (record { now = refl; later = refl }, (record { now = refl; later = refl }, tt));
     };
     outputs_are = refl;
     next_is = simp (walking, evaluating, resting);
@@ -65,6 +71,7 @@ aborts_weakly = record {
   third = record {
     values = with_true ([]);
     solution = record {
+      valuation = at_end _ _ _ refl refl;
       inputs = refl;
       plain = (record { now = tt; later = tt }, (record { now = tt; later = tt }, tt));
       settled = (record { now = refl; later = refl }, (record { now = refl; later = refl }, tt));
@@ -79,9 +86,10 @@ is_held_back = record {
   first = record {
     values = with_true (formal_instance 0 ∷ []);
     solution = record {
+      valuation = at_first _ _ refl;
       inputs = refl;
-      plain = simp (walking, evaluating) (record { now = tt; later = tt }, tt);
-      settled = simp (walking, evaluating) (record { now = refl; later = refl }, tt);
+      plain = simp laying (record { now = tt; later = tt }, tt);
+      settled = simp (walking, laying, evaluating) (record { now = refl; later = refl }, tt);
     };
     outputs_are = refl;
     next_is = simp (walking, evaluating);
@@ -89,9 +97,10 @@ is_held_back = record {
   second = record {
     values = with_true (formal_instance 0 ∷ []);
     solution = record {
+      valuation = at_rest _ _ _ _ (simp (laying, resting)) refl refl;
       inputs = refl;
-      plain = simp (walking, resting) (record { now = tt; later = tt }, tt);
-      settled = simp (walking, evaluating, resting) (record { now = refl; later = refl }, tt);
+      plain = simp (laying, resting) (record { now = tt; later = tt }, tt);
+      settled = simp (walking, laying, evaluating, resting) (record { now = refl; later = refl }, tt);
     };
     outputs_are = refl;
     next_is = simp (walking, evaluating, resting);
@@ -99,9 +108,10 @@ is_held_back = record {
   third = record {
     values = with_true (formal_instance 1 ∷ []);
     solution = record {
+      valuation = at_rest _ _ _ _ (simp (laying, resting)) refl refl;
       inputs = refl;
-      plain = simp (walking, resting) (record { now = tt; later = tt }, tt);
-      settled = simp (walking, evaluating, resting) (record { now = refl; later = refl }, tt);
+      plain = simp (laying, resting) (record { now = tt; later = tt }, tt);
+      settled = simp (walking, laying, evaluating, resting) (record { now = refl; later = refl }, tt);
     };
     outputs_are = refl;
     next_is = simp (walking, evaluating, resting);
@@ -112,9 +122,10 @@ pub leaves_at_once : LeavesAtOnce
 leaves_at_once = record {
   values = with_true (formal_instance 0 ∷ formal_instance 2 ∷ []);
   solution = record {
+    valuation = at_first _ _ refl;
     inputs = refl;
-    plain = simp walking (record { now = tt; later = tt }, (record { now = tt; later = tt }, tt));
-    settled = simp (walking, evaluating) (record { now = refl; later = refl }, (record { now = refl; later = refl }, tt));
+    plain = simp laying (record { now = tt; later = tt }, (record { now = tt; later = tt }, tt));
+    settled = simp (walking, laying, evaluating) (record { now = refl; later = refl }, (record { now = refl; later = refl }, tt));
   };
   outputs_are = refl;
   next_is = simp (walking, evaluating);
@@ -124,9 +135,10 @@ pub leaves_after_acting : LeavesAfterActing
 leaves_after_acting = record {
   values = with_true (formal_instance 0 ∷ formal_instance 1 ∷ formal_instance 2 ∷ []);
   solution = record {
+    valuation = at_first _ _ refl;
     inputs = refl;
-    plain = simp walking (record { now = tt; later = tt }, (record { now = tt; later = tt }, tt));
-    settled = simp (walking, evaluating) (record { now = refl; later = refl }, (record { now = refl; later = refl }, tt));
+    plain = simp laying (record { now = tt; later = tt }, (record { now = tt; later = tt }, tt));
+    settled = simp (walking, laying, evaluating) (record { now = refl; later = refl }, (record { now = refl; later = refl }, tt));
   };
   outputs_are = refl;
   next_is = simp (walking, evaluating);

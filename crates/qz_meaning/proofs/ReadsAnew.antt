@@ -2,7 +2,8 @@ use Rattle.std.proofs.Common.{[], ◌∷◌, refl}
 use Rattle.qz_meaning.specs.Instances.{formal_instance}
 use Rattle.qz_meaning.specs.Examples.{with_true}
 use Rattle.qz_meaning.specs.CallExamples.{ReadsAnew}
-use Rattle.qz_meaning.proofs.Walking.{walking}
+use Rattle.qz_meaning.proofs.Walking.{walking, laying}
+use Rattle.qz_meaning.proofs.Situations.{at_first, at_rest}
 use Rattle.qz_meaning.proofs.Evaluating.{evaluating}
 use Rattle.qz_meaning.proofs.Resting.{resting}
 
@@ -11,9 +12,10 @@ reads_anew = record {
   first = record {
     values = with_true (formal_instance 0 ∷ []);
     solution = record {
+      valuation = at_first _ _ refl;
       inputs = refl;
-      plain = simp walking (record { now = tt; later = tt }, tt);
-      settled = simp (walking, evaluating) (record { now = refl; later = refl }, tt);
+      plain = simp laying (record { now = tt; later = tt }, tt);
+      settled = simp (walking, laying, evaluating) (record { now = refl; later = refl }, tt);
     };
     outputs_are = refl;
     next_is = simp walking;
@@ -21,9 +23,10 @@ reads_anew = record {
   second = record {
     values = with_true (formal_instance 1 ∷ []);
     solution = record {
+      valuation = at_rest _ _ _ _ (simp (laying, resting)) refl refl;
       inputs = refl;
-      plain = simp (walking, resting) (record { now = tt; later = tt }, tt);
-      settled = simp (walking, evaluating, resting) (record { now = refl; later = refl }, tt);
+      plain = simp (laying, resting) (record { now = tt; later = tt }, tt);
+      settled = simp (walking, laying, evaluating, resting) (record { now = refl; later = refl }, tt);
     };
     outputs_are = refl;
     next_is = simp (walking, evaluating, resting);

@@ -5,7 +5,8 @@ use Rattle.qz_syntax.specs.declared.places.Later.TheVariants as later
 use Rattle.qz_meaning.specs.Settling.{Environment}
 use Rattle.qz_meaning.specs.Examples.{byte}
 use Rattle.qz_meaning.specs.WriterExamples.{TakesDelayed}
-use Rattle.qz_meaning.proofs.Walking.{walking}
+use Rattle.qz_meaning.proofs.Walking.{walking, laying}
+use Rattle.qz_meaning.proofs.Situations.{at_first, at_rest, at_end}
 use Rattle.qz_meaning.proofs.Evaluating.{evaluating}
 use Rattle.qz_meaning.proofs.Resting.{resting}
 
@@ -19,9 +20,10 @@ takes_delayed = record {
   first = record {
     values = all_byte 0 (later.Known (byte 1));
     solution = record {
+      valuation = at_first _ _ refl;
       inputs = refl;
-      plain = simp walking (record { now = tt; later = tt }, tt);
-      settled = simp (walking, evaluating) (record { now = refl; later = refl }, tt);
+      plain = simp laying (record { now = tt; later = tt }, tt);
+      settled = simp (walking, laying, evaluating) (record { now = refl; later = refl }, tt);
     };
     outputs_are = refl;
     next_is = simp walking;
@@ -29,9 +31,10 @@ takes_delayed = record {
   second = record {
     values = all_byte 1 later.Absent;
     solution = record {
+      valuation = at_rest _ _ _ _ (simp (laying, resting)) refl refl;
       inputs = refl;
-      plain = simp (walking, resting) (record { now = tt; later = tt }, tt);
-      settled = simp (walking, evaluating, resting) (record { now = refl; later = refl }, tt);
+      plain = simp (laying, resting) (record { now = tt; later = tt }, tt);
+      settled = simp (walking, laying, evaluating, resting) (record { now = refl; later = refl }, tt);
     };
     outputs_are = refl;
     next_is = simp (walking, resting);
@@ -39,6 +42,7 @@ takes_delayed = record {
   third = record {
     values = all_byte 1 later.Absent;
     solution = record {
+      valuation = at_end _ _ _ refl refl;
       inputs = refl;
       plain = (record { now = tt; later = tt }, tt);
       settled = (record { now = refl; later = refl }, tt);

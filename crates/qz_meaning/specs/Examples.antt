@@ -12,17 +12,19 @@ use Rattle.qz_syntax.specs.declared.declarations.Decl.{Decl}
 use Rattle.qz_syntax.specs.declared.expressions.Var.TheVariants as var
 use Rattle.qz_syntax.specs.declared.expressions.Expr.{Expr}
 use Rattle.qz_syntax.specs.declared.expressions.Expr.TheVariants as expr
+use Rattle.qz_syntax.specs.declared.modules.Module.{Module}
 use Rattle.qz_syntax.specs.declared.statements.Stmt.{Stmt}
 use Rattle.qz_syntax.specs.declared.statements.Stmt.TheVariants as stmt
 use Rattle.qz_syntax.specs.declared.places.Place.TheVariants as place
 use Rattle.qz_syntax.specs.declared.places.Later.TheVariants as later
 use Rattle.qz_syntax.specs.declared.places.Residual.TheVariants as residual
 use Rattle.qz_meaning.specs.Instances.{Instance, is_same_instance}
-use Rattle.qz_meaning.specs.Scenes.{new_store}
+use Rattle.qz_meaning.specs.Scenes.{default_store}
 use Rattle.qz_meaning.specs.Programs.{Program, program_of}
-use Rattle.qz_meaning.specs.Settling.{Configuration, Environment}
+use Rattle.qz_meaning.specs.Configurations.{Configuration, initial}
+use Rattle.qz_meaning.specs.Settling.{Environment}
 use Rattle.qz_meaning.specs.Rounds.{IsDefinite}
-use Rattle.qz_meaning.specs.MacroSteps.{initial, IsStep}
+use Rattle.qz_meaning.specs.MacroSteps.{IsStep}
 use Rattle.qz_meaning.specs.Runs.{IsOnlyRun}
 
 -- `event !x`
@@ -60,9 +62,9 @@ with_true instances = record {
   later = λ i. later.Absent;
 }
 
--- a module of events without labels, whose name and formals' names have no part in what it means
-abbrev pub program : List Formal → List Decl → List (Option (List ℕ)) → ℕ → Stmt → Program
-program formals decls labels loops body = program_of (record {
+-- a module without labels, whose name and formals' names have no part in what it means
+abbrev pub source : List Formal → List Decl → List (Option (List ℕ)) → ℕ → Stmt → Module
+source formals decls labels loops body = record {
   name = [];
   formals = formals;
   decls = decls;
@@ -70,18 +72,24 @@ program formals decls labels loops body = program_of (record {
   loops = loops;
   calls = 0;
   body = body;
-})
+}
+
+-- its program
+abbrev pub program : List Formal → List Decl → List (Option (List ℕ)) → ℕ → Stmt → Program
+program formals decls labels loops body = program_of (source formals decls labels loops body)
 
 -- `loop { emit o; pause; }`
+abbrev pub emitting : Module
+emitting = source (event_output ∷ []) [] (None ∷ []) 1 (stmt.Loop 0 (stmt.Seq (emit 0 ∷ stmt.Pause 0 ∷ [])) always)
+
 abbrev pub always_emitted : Program
-always_emitted =
-    program (event_output ∷ []) [] (None ∷ []) 1 (stmt.Loop 0 (stmt.Seq (emit 0 ∷ stmt.Pause 0 ∷ [])) always)
+always_emitted = program_of emitting
 
 -- control rests at the pause
 abbrev pub at_its_pause : Configuration
 at_its_pause = record {
   place = place.Rest (residual.InBody (residual.InSeq 1 (residual.At 0)));
-  outputs = new_store ty.Bool ∷ [];
+  outputs = default_store ty.Bool ∷ [];
 }
 
 -- it emits in its first step, and in each later one, and comes back to the pause

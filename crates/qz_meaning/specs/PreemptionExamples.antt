@@ -6,10 +6,10 @@ use Rattle.qz_values.specs.Values.{yes, no}
 use Rattle.qz_syntax.specs.declared.statements.Stmt.TheVariants as stmt
 use Rattle.qz_syntax.specs.declared.places.Place.TheVariants as place
 use Rattle.qz_syntax.specs.declared.places.Residual.TheVariants as residual
-use Rattle.qz_meaning.specs.Scenes.{new_store}
+use Rattle.qz_meaning.specs.Scenes.{default_store}
 use Rattle.qz_meaning.specs.Programs.{Program}
-use Rattle.qz_meaning.specs.Settling.{Configuration}
-use Rattle.qz_meaning.specs.MacroSteps.{initial, IsStep}
+use Rattle.qz_meaning.specs.Configurations.{Configuration, initial}
+use Rattle.qz_meaning.specs.MacroSteps.{IsStep}
 use Rattle.qz_meaning.specs.Examples.{event_input, event_output, formal, emit, program}
 
 -- `abort { emit s; pause; emit d; pause; emit d; } when(a);`, or the same with `weak`
@@ -23,12 +23,12 @@ aborted weak = program (event_input ∷ event_output ∷ event_output ∷ []) []
 abbrev pub at_first_pause : Configuration
 at_first_pause = record {
   place = place.Rest (residual.InBody (residual.InSeq 1 (residual.At 0)));
-  outputs = new_store ty.Bool ∷ new_store ty.Bool ∷ [];
+  outputs = default_store ty.Bool ∷ default_store ty.Bool ∷ [];
 }
 
 -- nothing is left of the program but its two outputs
 abbrev pub is_over : Configuration
-is_over = record { place = place.Ended; outputs = new_store ty.Bool ∷ new_store ty.Bool ∷ [] }
+is_over = record { place = place.Ended; outputs = default_store ty.Bool ∷ default_store ty.Bool ∷ [] }
 
 -- `s` is emitted at first; then `a` is true, the outputs are these, and the program has ended
 pub record EndsInSecondStep (p : Program) (outputs : List Value) : Type 0 where
@@ -67,13 +67,13 @@ held_back = program (event_input ∷ event_output ∷ []) [] (None ∷ None ∷ 
 
 -- control rests at the hold place
 abbrev pub at_hold_place : Configuration
-at_hold_place = record { place = place.Rest (residual.Hold 0); outputs = new_store ty.Bool ∷ [] }
+at_hold_place = record { place = place.Rest (residual.Hold 0); outputs = default_store ty.Bool ∷ [] }
 
 -- control rests at the pause
 abbrev pub at_inner_pause : Configuration
 at_inner_pause = record {
   place = place.Rest (residual.InBody (residual.InSeq 1 (residual.At 1)));
-  outputs = new_store ty.Bool ∷ [];
+  outputs = default_store ty.Bool ∷ [];
 }
 
 -- while `c` is true control rests at the hold place; once it is false the body starts

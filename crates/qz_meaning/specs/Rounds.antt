@@ -6,9 +6,11 @@ use Rattle.qz_values.specs.declared.Know.{Know}
 use Rattle.qz_values.specs.declared.Know.TheVariants as know
 use Rattle.qz_syntax.specs.declared.places.Later.{Later}
 use Rattle.qz_syntax.specs.declared.places.Later.TheVariants as later
-use Rattle.qz_meaning.specs.Behaviors.{Write, Met}
+use Rattle.qz_meaning.specs.Accounts.{Write}
+use Rattle.qz_meaning.specs.Layouts.{Met}
 use Rattle.qz_meaning.specs.Programs.{Program}
-use Rattle.qz_meaning.specs.Settling.{Configuration, Environment, step_writes, step_met, settles_now, settles_later, given, met_as}
+use Rattle.qz_meaning.specs.Configurations.{Configuration, IsValuationOf}
+use Rattle.qz_meaning.specs.Settling.{Environment, step_writes, step_met, settles_now, settles_later, given, met_as}
 
 -- an input has its value, an instance that is met settles, and every other one is unknown
 abbrev pub now_or_unknown : Program → List Write → Option Value → Option Met → Know
@@ -29,15 +31,15 @@ given_or_unknown None = know.Unknown
 -- round 0: the inputs are known, and nothing else is
 abbrev pub first_round : Program → List Value → Environment
 first_round p row = record {
-  now = λ i. given_or_unknown (given p row i.variable);
+  now = λ i. given_or_unknown (given p row i);
   later = λ i. later.Unknown;
 }
 
 -- the next round settles each instance that is met from the walk under the round before
 abbrev pub next_round : Program → Configuration → List Value → Environment → Environment
 next_round p c row env = record {
-  now = λ i. now_or_unknown p (step_writes p c env) (given p row i.variable) (met_as i (step_met p c env));
-  later = λ i. later_or_unknown (step_writes p c env) (met_as i (step_met p c env));
+  now = λ i. now_or_unknown p (step_writes p c env) (given p row i) (met_as i (step_met p c));
+  later = λ i. later_or_unknown (step_writes p c env) (met_as i (step_met p c));
 }
 
 -- the environment after so many rounds
@@ -45,15 +47,18 @@ abbrev pub round : Program → Configuration → List Value → ℕ → Environm
 round p c row zero = first_round p row
 round p c row (suc n) = next_round p c row (round p c row n)
 
--- two environments that agree at each of these instances
+-- two environments that agree at an instance
 pub record AgreeAt (one : Met) (a b : Environment) : Type 0 where
   pub now : a.now one.instance ≡ b.now one.instance
   pub later : a.later one.instance ≡ b.later one.instance
 
+-- two environments that agree at each instance that is met
+abbrev pub AgreeWhereMet : Program → Configuration → Environment → Environment → Type 0
+AgreeWhereMet p c a b = AllByRecursion (λ (one : Met). AgreeAt one a b) (step_met p c)
+
 -- nothing changes after this round at any instance that is met
 abbrev pub IsLast : Program → Configuration → List Value → ℕ → Type 0
-IsLast p c row n =
-    AllByRecursion (λ (one : Met). AgreeAt one (round p c row n) (round p c row (suc n))) (step_met p c (round p c row n))
+IsLast p c row n = AgreeWhereMet p c (round p c row n) (round p c row (suc n))
 
 -- the least environment is that of a round after which nothing changes
 pub record IsLeast (p : Program) (c : Configuration) (row : List Value) (env : Environment) : Type 0 where
@@ -81,10 +86,11 @@ pub record IsPlainAt (env : Environment) (one : Met) : Type 0 where
 
 -- every instance that is met is plain
 abbrev pub IsPlain : Program → Configuration → Environment → Type 0
-IsPlain p c env = AllByRecursion (IsPlainAt env) (step_met p c env)
+IsPlain p c env = AllByRecursion (IsPlainAt env) (step_met p c)
 
 -- a configuration with inputs is definite where its least environment is plain
 pub record IsDefinite (p : Program) (c : Configuration) (row : List Value) : Type 0 where
+  pub valuation : IsValuationOf p c row
   pub least : Environment
   pub is_least : IsLeast p c row least
   pub plain : IsPlain p c least

@@ -1,10 +1,9 @@
 -- What a walk goes by: what is fixed in it, and what changes on the way down a tree.
-use Rattle.std.specs.Prelude.{ℕ, Bool, true, false, ◌==◌, List, if◌then◌else◌}
-use Rattle.std.specs.List.{list_any}
+use Rattle.std.specs.Prelude.{ℕ, true, false, List, if◌then◌else◌}
 use Rattle.qz_values.specs.declared.Ty.{Ty}
 use Rattle.qz_values.specs.declared.Know.{Know}
-use Rattle.qz_values.specs.declared.Know.TheVariants.{Unknown, Known}
-use Rattle.qz_values.specs.Values.{default_of}
+use Rattle.qz_values.specs.declared.Know.TheVariants.{Known}
+use Rattle.qz_values.specs.Values.{no, default_of}
 use Rattle.qz_syntax.specs.declared.declarations.Class.{Class}
 use Rattle.qz_syntax.specs.declared.declarations.Class.TheVariants.{Event, Mem}
 use Rattle.qz_syntax.specs.declared.expressions.Var.{Var}
@@ -14,17 +13,20 @@ use Rattle.qz_syntax.specs.declared.places.Mark.TheVariants as mark
 use Rattle.qz_syntax.specs.declared.places.Later.{Later}
 use Rattle.qz_syntax.specs.declared.places.Later.TheVariants as later
 use Rattle.qz_syntax.specs.declared.places.Store.{Store}
+use Rattle.qz_syntax.specs.Numbers.{contains}
 use Rattle.qz_meaning.specs.Instances.{Instance}
 
--- what is fixed in a walk: the variables, what is known of their instances and of the values delayed to
--- the next step, and what the calls answer (by number, and on starting by mark)
-pub record Scene : Type 0 where
+-- what a walk reads: what is known of each instance
+abbrev pub Scene : Type 0
+Scene = Instance → Know
+
+-- what the stores after a step come from: the variables, and what is known of their instances and of the
+-- values delayed to the next step
+pub record Passing : Type 0 where
   pub class_of : Var → Class
   pub type_of : Var → Ty
   pub now : Instance → Know
   pub later : Instance → Later
-  pub call_ends_at_once : ℕ → Mark → Know
-  pub call_ends : ℕ → Know
 
 -- what changes on the way down: the mark of the instance that a local has here, and what is known here
 -- of the arguments that are bound round this place
@@ -32,13 +34,10 @@ pub record Context : Type 0 where
   pub marks : ℕ → Mark
   pub bound : ℕ → Know
 
--- at the root no local exists and nothing is bound
+-- At the root no local exists and nothing is bound. What isn't bound is known, so that nothing is open in a
+-- context where each local is known.
 abbrev pub root : Context
-root = record { marks = λ n. mark.Zero; bound = λ n. Unknown }
-
--- whether a number is among these
-abbrev pub contains : List ℕ → ℕ → Bool
-contains numbers n = list_any (λ number. number == n) numbers
+root = record { marks = λ n. mark.Zero; bound = λ n. Known no }
 
 -- below a scope, whose locals have instances with this mark
 abbrev pub with_locals : Context → List ℕ → Mark → Context
@@ -53,15 +52,15 @@ instance_here ctx (var.Formal n) = record { variable = var.Formal n; mark = mark
 instance_here ctx (var.Local n) = record { variable = var.Local n; mark = ctx.marks n }
 instance_here ctx (var.Bound n) = record { variable = var.Bound n; mark = mark.Zero }
 
--- the store of a variable that has just come into being
-abbrev pub new_store : Ty → Store
-new_store t = record { value = default_of t; pending = false }
+-- the default without mark
+abbrev pub default_store : Ty → Store
+default_store t = record { value = default_of t; pending = false }
 
 -- the store without mark: the step's value where it is kept and known, else the default
 abbrev pub unmarked_store : Class → Ty → Know → Store
-unmarked_store Event t k = new_store t
+unmarked_store Event t k = default_store t
 unmarked_store Mem t (Known v) = record { value = v; pending = false }
-unmarked_store Mem t k = new_store t
+unmarked_store Mem t k = default_store t
 
 -- the store that comes from an instance: the delayed value with a mark if there is one
 abbrev pub store_of : Class → Ty → Know → Later → Store
@@ -71,6 +70,5 @@ store_of class t now later.Absent = unmarked_store class t now
 store_of class t now later.Clash = unmarked_store class t now
 
 -- the store that comes from an instance, under the values of the step
-abbrev pub store_from : Scene → Instance → Store
-store_from scene i =
-    store_of (scene.class_of i.variable) (scene.type_of i.variable) (scene.now i) (scene.later i)
+abbrev pub store_from : Passing → Instance → Store
+store_from step i = store_of (step.class_of i.variable) (step.type_of i.variable) (step.now i) (step.later i)

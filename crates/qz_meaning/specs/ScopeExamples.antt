@@ -15,11 +15,12 @@ use Rattle.qz_syntax.specs.declared.places.Store.{Store}
 use Rattle.qz_syntax.specs.declared.places.Residual.{Residual}
 use Rattle.qz_syntax.specs.declared.places.Residual.TheVariants as residual
 use Rattle.qz_meaning.specs.Instances.{Instance, formal_instance, local_instance}
-use Rattle.qz_meaning.specs.Scenes.{new_store}
-use Rattle.qz_meaning.specs.Behaviors.{Met}
+use Rattle.qz_meaning.specs.Scenes.{default_store}
+use Rattle.qz_meaning.specs.Layouts.{Met}
 use Rattle.qz_meaning.specs.Programs.{Program}
-use Rattle.qz_meaning.specs.Settling.{Configuration, Environment, step_met}
-use Rattle.qz_meaning.specs.MacroSteps.{initial, IsSolution, IsStep, next_configuration}
+use Rattle.qz_meaning.specs.Configurations.{Configuration, initial}
+use Rattle.qz_meaning.specs.Settling.{Environment, step_met}
+use Rattle.qz_meaning.specs.MacroSteps.{IsSolution, IsStep, next_configuration}
 use Rattle.qz_meaning.specs.Examples.{event_input, event_output, byte_output, byte, formal, always, emit, with_true, program}
 
 -- `event x`
@@ -41,8 +42,8 @@ entered_again = program (event_output ∷ []) (event_local ∷ []) (None ∷ [])
 -- control rests at the pause, with a new store for `x`
 abbrev pub in_scope : Configuration
 in_scope = record {
-  place = place.Rest (residual.InBody (residual.InScope (new_store ty.Bool ∷ []) (residual.InSeq 1 (residual.At 0))));
-  outputs = new_store ty.Bool ∷ [];
+  place = place.Rest (residual.InBody (residual.InScope (default_store ty.Bool ∷ []) (residual.InSeq 1 (residual.At 0))));
+  outputs = default_store ty.Bool ∷ [];
 }
 
 -- the `x` of the scope that is left
@@ -57,17 +58,14 @@ entered_x = local_instance 0 (mark.Loop 0)
 abbrev pub at_turn : Environment
 at_turn = with_true (left_x ∷ [])
 
--- it comes to the pause in its first step, and from there again, where both instances are met
-pub record EntersAndLeaves (p : Program) : Type 0 where
-  pub first : IsStep p (initial p) [] (no ∷ []) in_scope
-  pub met : map (λ (one : Met). one.instance) (step_met p in_scope at_turn) ≡ formal_instance 0 ∷ left_x ∷ entered_x ∷ []
-  pub solution : IsSolution p in_scope [] at_turn
-  pub next_is : next_configuration p in_scope at_turn ≡ in_scope
-
--- the instance that is left is true, the one that is entered isn't, so `o` isn't emitted
+-- it comes to the pause in its first step, and from there again, where both instances are met: the one that is
+-- left is true, the one that is entered isn't, so `o` isn't emitted
 pub record EntersAgain : Type 0 where
   pub ordered : entered_again.instances ≡ formal_instance 0 ∷ left_x ∷ entered_x ∷ []
-  pub turn : EntersAndLeaves entered_again
+  pub first : IsStep entered_again (initial entered_again) [] (no ∷ []) in_scope
+  pub met : map (λ (one : Met). one.instance) (step_met entered_again in_scope) ≡ formal_instance 0 ∷ left_x ∷ entered_x ∷ []
+  pub solution : IsSolution entered_again in_scope [] at_turn
+  pub next_is : next_configuration entered_again in_scope at_turn ≡ in_scope
   pub left : at_turn.now left_x ≡ Known yes
   pub entered : at_turn.now entered_x ≡ Known no
   pub output : at_turn.now (formal_instance 0) ≡ Known no
@@ -107,12 +105,12 @@ in_suspended inside number x y = record {
 }
 
 -- while it is suspended control stays, and `x` takes its delayed value, which its store then keeps
-pub record CarriesStores (p : Program) : Type 0 where
-  pub first : IsStep p (initial p) (no ∷ []) (byte 0 ∷ [])
+pub record CarriesStores : Type 0 where
+  pub first : IsStep suspended (initial suspended) (no ∷ []) (byte 0 ∷ [])
       (in_suspended (residual.At 0) 1 (record { value = byte 5; pending = true }) (byte 0))
-  pub held : IsStep p (in_suspended (residual.At 0) 1 (record { value = byte 5; pending = true }) (byte 0)) (yes ∷ [])
+  pub held : IsStep suspended (in_suspended (residual.At 0) 1 (record { value = byte 5; pending = true }) (byte 0)) (yes ∷ [])
       (byte 0 ∷ [])
       (in_suspended (residual.At 0) 1 (record { value = byte 5; pending = false }) (byte 0))
-  pub resumed : IsStep p (in_suspended (residual.At 0) 1 (record { value = byte 5; pending = false }) (byte 0)) (no ∷ [])
+  pub resumed : IsStep suspended (in_suspended (residual.At 0) 1 (record { value = byte 5; pending = false }) (byte 0)) (no ∷ [])
       (byte 5 ∷ [])
       (in_suspended (residual.At 1) 3 (record { value = byte 5; pending = false }) (byte 5))

@@ -1,5 +1,5 @@
 -- The bits of valuations, written out.
-use Rattle.std.specs.Prelude.{◌≡◌, ◌++◌, Bool, true, false, List, [], ◌∷◌, None, replicate}
+use Rattle.std.specs.Prelude.{◌≡◌, ◌++◌, Bool, true, false, List, [], ◌∷◌, Option, Some, None, replicate}
 use Rattle.qz_values.specs.declared.Ty.TheVariants as ty
 use Rattle.qz_values.specs.declared.Value.{Value}
 use Rattle.qz_values.specs.Values.{yes, no, value_of}
@@ -9,12 +9,17 @@ use Rattle.qz_syntax.specs.declared.declarations.Formal.{Formal}
 use Rattle.qz_syntax.specs.declared.expressions.Var.TheVariants as var
 use Rattle.qz_syntax.specs.declared.expressions.Expr.TheVariants as expr
 use Rattle.qz_syntax.specs.declared.statements.Stmt.TheVariants as stmt
+use Rattle.qz_syntax.specs.declared.places.Store.{Store}
+use Rattle.qz_syntax.specs.declared.places.Residual.{Residual}
+use Rattle.qz_syntax.specs.declared.places.Place.{Place}
 use Rattle.qz_syntax.specs.declared.places.Place.TheVariants as place
 use Rattle.qz_syntax.specs.declared.places.Residual.TheVariants as residual
 use Rattle.qz_meaning.specs.Programs.{Program}
+use Rattle.qz_meaning.specs.Configurations.{Configuration}
+use Rattle.qz_meaning.specs.MacroSteps.{IsStep}
 use Rattle.qz_meaning.specs.Valuations.{Valuation, IsPermitted, bits_of_valuation, ComesBefore}
-use Rattle.qz_meaning.specs.Examples.{event_input, byte, program}
-use Rattle.qz_meaning.specs.ScopeExamples.{in_suspended}
+use Rattle.qz_meaning.specs.Examples.{event_input, event_output, byte_output, byte, program}
+use Rattle.qz_meaning.specs.ScopeExamples.{suspended, in_suspended}
 
 -- `mem bv[2] !y`
 abbrev pub pair_output : Formal
@@ -78,6 +83,37 @@ groups_without_local =
     (false ∷ true ∷ false ∷ false ∷ false ∷ []) ++ (false ∷ false ∷ false ∷ []) ++ (true ∷ false ∷ false ∷ [])
 
 -- a local's bits stand after the outputs', and are false where it doesn't exist
-pub record HasLocalBits (p : Program) : Type 0 where
-  pub existing : bits_of_valuation p with_local ≡ (true ∷ true ∷ false ∷ []) ++ groups_with_local ++ replicate 183 false
-  pub missing : bits_of_valuation p without_local ≡ (true ∷ false ∷ false ∷ []) ++ groups_without_local ++ replicate 183 false
+pub record HasLocalBits : Type 0 where
+  pub existing : bits_of_valuation suspended with_local ≡ (true ∷ true ∷ false ∷ []) ++ groups_with_local ++ replicate 183 false
+  pub missing : bits_of_valuation suspended without_local ≡ (true ∷ false ∷ false ∷ []) ++ groups_without_local ++ replicate 183 false
+
+-- `nothing`, with one output
+abbrev pub silent : Formal → Program
+silent output = program (output ∷ []) [] [] 0 stmt.Nothing
+
+-- it has ended, or isn't started, and its output has this store
+abbrev pub with_store : Place → Store → Valuation
+with_store where_at store = record { configuration = record { place = where_at; outputs = store ∷ [] }; inputs = [] }
+
+-- a value of a variable that keeps its value is permitted after the start and not before; a mark isn't where no
+-- `next` is applied to the variable, nor the value of an event without mark
+pub record ArePermitted : Type 0 where
+  pub kept : IsPermitted (silent byte_output) (with_store place.Ended record { value = byte 3; pending = false })
+  pub not_at_start : ¬ IsPermitted (silent byte_output) (with_store place.NotStarted record { value = byte 3; pending = false })
+  pub no_mark : ¬ IsPermitted (silent byte_output) (with_store place.Ended record { value = byte 3; pending = true })
+  pub no_event : ¬ IsPermitted (silent event_output) (with_store place.Ended record { value = yes; pending = false })
+
+-- `pause; || pause;`
+abbrev pub both_pausing : Program
+both_pausing = program [] [] (None ∷ None ∷ []) 0 (stmt.Par (stmt.Pause 0 ∷ stmt.Pause 1 ∷ []))
+
+-- control rests in these members
+abbrev pub in_members : List (Option Residual) → Configuration
+in_members branches = record { place = place.Rest (residual.InPar branches); outputs = [] }
+
+-- a parallel whose members are all done is no place: the step in which they end ends it
+pub record IsNoPlaceWhenDone : Type 0 where
+  pub one_rests : IsPermitted both_pausing record { configuration = in_members (Some (residual.At 0) ∷ None ∷ []); inputs = [] }
+  pub none_rests : ¬ IsPermitted both_pausing record { configuration = in_members (None ∷ None ∷ []); inputs = [] }
+  pub ends : IsStep both_pausing (in_members (Some (residual.At 0) ∷ Some (residual.At 1) ∷ [])) [] []
+      record { place = place.Ended; outputs = [] }

@@ -1,12 +1,10 @@
 -- Permitted valuations: every place that the syntax permits, with every store and every input; and their
 -- order, which is that of lists of bits.
-use Rattle.std.specs.Prelude.{ℕ, ◌≡◌, ◌/◌, ◌%◌, ◌^◌, Bool, true, false, ◌==◌, ◌&&◌, nat_lt, IsTrue, List, [], ◌∷◌, ◌++◌, map, Option, Some, None, if◌then◌else◌}
+use Rattle.std.specs.Prelude.{ℕ, ◌≡◌, ◌/◌, ◌%◌, ◌^◌, Bool, true, false, ◌==◌, ◌&&◌, IsTrue, List, [], ◌∷◌, ◌++◌, map, Option, Some, None, if◌then◌else◌}
 use Rattle.std.specs.Option.{option_map_or}
 use Rattle.std.specs.List.{list_all, flat_map, range_with_len}
-use Rattle.qz_values.specs.declared.Ty.{Ty}
 use Rattle.qz_values.specs.declared.Value.{Value}
-use Rattle.qz_values.specs.Types.{width_of, is_same_type}
-use Rattle.qz_values.specs.Values.{type_of, bits_of}
+use Rattle.qz_values.specs.Values.{bits_of}
 use Rattle.qz_syntax.specs.declared.declarations.Class.{Class}
 use Rattle.qz_syntax.specs.declared.declarations.Class.TheVariants.{Event, Mem}
 use Rattle.qz_syntax.specs.declared.expressions.Var.{Var}
@@ -17,12 +15,9 @@ use Rattle.qz_syntax.specs.declared.places.Residual.TheOpen.{Residual-F}
 use Rattle.qz_syntax.specs.declared.places.Residual.TheFolds.{fold-Residual}
 use Rattle.qz_syntax.specs.declared.places.Place.{Place}
 use Rattle.qz_syntax.specs.declared.places.Place.TheVariants as place
-use Rattle.qz_meaning.specs.Scenes.{contains}
-use Rattle.qz_meaning.specs.Behaviors.{Behavior}
+use Rattle.qz_syntax.specs.Numbers.{contains}
 use Rattle.qz_meaning.specs.Programs.{Program}
-use Rattle.qz_meaning.specs.Settling.{Configuration, body_under}
-use Rattle.qz_meaning.specs.Rounds.{first_round}
-use Rattle.qz_meaning.specs.MacroSteps.{initial}
+use Rattle.qz_meaning.specs.Configurations.{Configuration, layout_of, is_of_type, IsRow, initial}
 
 -- a configuration and a row of inputs
 pub record Valuation : Type 0 where
@@ -44,9 +39,20 @@ node_places (Residual-F.InCall number) = []
 abbrev pub resting_places : Residual → List ℕ
 resting_places = fold-Residual (List ℕ) node_places
 
--- a value of this type
-abbrev pub is_of_type : Ty → Value → Bool
-is_of_type t v = is_same_type (type_of v) t && nat_lt (bits_of v) (2 ^ width_of t)
+-- one residual, with the calls of the parts inside it in their place
+abbrev pub node_calls : Residual-F (List ℕ) → List ℕ
+node_calls (Residual-F.At place) = []
+node_calls (Residual-F.Hold place) = []
+node_calls (Residual-F.InSeq member inside) = inside
+node_calls (Residual-F.InPar branches) = flat_map (λ branch. option_map_or (λ calls. calls) branch []) branches
+node_calls (Residual-F.InIf side inside) = inside
+node_calls (Residual-F.InBody inside) = inside
+node_calls (Residual-F.InScope stores inside) = inside
+node_calls (Residual-F.InCall number) = number ∷ []
+
+-- the numbers of the calls in which control rests
+abbrev pub resting_calls : Residual → List ℕ
+resting_calls = fold-Residual (List ℕ) node_calls
 
 -- an event without mark has its default
 abbrev pub is_kept_by : Class → Value → Bool
@@ -70,29 +76,18 @@ are_output_stores p (n ∷ numbers) (store ∷ stores) = is_store_of p (var.Form
 abbrev pub are_local_stores : Program → List (ℕ × Store) → Bool
 are_local_stores p stores = list_all (λ (one : ℕ × Store). is_store_of p (var.Local one.0) one.1) stores
 
--- for each input a value of its type
-abbrev pub are_inputs : Program → List ℕ → List Value → Bool
-are_inputs p [] [] = true
-are_inputs p [] (v ∷ values) = false
-are_inputs p (n ∷ numbers) [] = false
-are_inputs p (n ∷ numbers) (v ∷ values) = is_of_type (p.type_of (var.Formal n)) v && are_inputs p numbers values
-
--- places and the stores of their locals don't depend on what is known
-abbrev pub shape_of : Program → Behavior
-shape_of p = body_under p (first_round p [])
-
 -- a configuration that is permitted: not started with the initial stores, or any place that fits, or the
 -- end, with any stores
 abbrev pub IsPermittedPlace : Program → Configuration → Place → Type 0
 IsPermittedPlace p c place.NotStarted = c ≡ initial p
 IsPermittedPlace p c (place.Rest r) =
-    IsTrue ((shape_of p).fits r && (are_local_stores p ((shape_of p).stores_at r) && are_output_stores p p.outputs c.outputs))
+    IsTrue ((layout_of p).fits r && (are_local_stores p ((layout_of p).stores_at r) && are_output_stores p p.outputs c.outputs))
 IsPermittedPlace p c place.Ended = IsTrue (are_output_stores p p.outputs c.outputs)
 
 -- a valuation that is permitted
 pub record IsPermitted (p : Program) (v : Valuation) : Type 0 where
   pub place : IsPermittedPlace p v.configuration v.configuration.place
-  pub inputs : IsTrue (are_inputs p p.inputs v.inputs)
+  pub inputs : IsRow p v.inputs
 
 -- whether the program is started, also where it has ended
 abbrev pub is_started : Place → Bool
@@ -109,7 +104,7 @@ rests_at place.Ended n = false
 -- the stores of the locals that exist at a place, by the locals' numbers
 abbrev pub stores_at_place : Program → Place → List (ℕ × Store)
 stores_at_place p place.NotStarted = []
-stores_at_place p (place.Rest r) = (shape_of p).stores_at r
+stores_at_place p (place.Rest r) = (layout_of p).stores_at r
 stores_at_place p place.Ended = []
 
 -- the store of the local with this number, if it exists

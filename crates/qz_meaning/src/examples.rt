@@ -2,10 +2,12 @@
 
 ghost use Rattle.qz_meaning.specs.Examples.{EmitsAlways, StartsDefinite, EmitsInOneRun};
 ghost use Rattle.qz_meaning.specs.PreemptionExamples.{AbortsStrongly, AbortsWeakly, LeavesAtOnce, LeavesAfterActing, IsHeldBack};
-ghost use Rattle.qz_meaning.specs.ScopeExamples.{EntersAgain, HasThreeInstances, CarriesStores, suspended};
-ghost use Rattle.qz_meaning.specs.CallExamples.{ReadsAnew};
-ghost use Rattle.qz_meaning.specs.WriterExamples.{TakesDelayed, WaitsForItself, Contradicts};
-ghost use Rattle.qz_meaning.specs.ValuationExamples.{IsWrittenOut, HasLocalBits};
+ghost use Rattle.qz_meaning.specs.ScopeExamples.{EntersAgain, HasThreeInstances, CarriesStores};
+ghost use Rattle.qz_meaning.specs.CallExamples.{ReadsAnew, LendsItsLocal};
+ghost use Rattle.qz_meaning.specs.WriterExamples.{TakesDelayed, WaitsForItself, Contradicts, PendingClashes, DelayedClashes};
+ghost use Rattle.qz_meaning.specs.ValuationExamples.{IsWrittenOut, HasLocalBits, ArePermitted, IsNoPlaceWhenDone};
+ghost use Rattle.qz_meaning.specs.SolutionExamples.{HasTwoSolutions};
+ghost use Rattle.qz_meaning.specs.ReentryExamples.{SuspendsWeakly, EntersByEach};
 
 /// `loop { emit o; pause; }` emits in its first step and in each later one.
 pub fn emits_always()
@@ -59,7 +61,7 @@ pub fn has_three_instances()
 
 /// A suspended scope's stores are carried on.
 pub fn carries_stores()
-    ensures { CarriesStores suspended }
+    ensures { CarriesStores }
 {}
 
 /// A call's argument is evaluated anew in each step.
@@ -89,5 +91,45 @@ pub fn is_written_out()
 
 /// The bits of a local in two valuations, where it exists and where it doesn't.
 pub fn has_local_bits()
-    ensures { HasLocalBits suspended }
+    ensures { HasLocalBits }
+{}
+
+/// A pending value clashes with a present writer that gives another value.
+pub fn pending_clashes()
+    ensures { PendingClashes }
+{}
+
+/// Two delayed values that differ clash.
+pub fn delayed_clashes()
+    ensures { DelayedClashes }
+{}
+
+/// `event x; if(x) emit x;` has two macro steps with the same outputs.
+pub fn has_two_solutions()
+    ensures { HasTwoSolutions }
+{}
+
+/// Which stores are permitted: no mark without `next`, no value of an event, none before the start.
+pub fn are_permitted()
+    ensures { ArePermitted }
+{}
+
+/// A parallel whose members are all done is no place.
+pub fn is_no_place_when_done()
+    ensures { IsNoPlaceWhenDone }
+{}
+
+/// A call in a loop is handed the instance of the caller's local by which its scope is kept or entered.
+pub fn lends_its_local()
+    ensures { LendsItsLocal }
+{}
+
+/// A weak immediate suspend round a scope in a loop.
+pub fn suspends_weakly()
+    ensures { SuspendsWeakly }
+{}
+
+/// An inner loop's local, which the outer loop leaves and enters again.
+pub fn enters_by_each()
+    ensures { EntersByEach }
 {}

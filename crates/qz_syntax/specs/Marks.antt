@@ -1,11 +1,11 @@
 -- The marks that a local's instances have.
-use Rattle.std.specs.Prelude.{ℕ, ◌==◌, List, [], ◌∷◌, map, Option, Some, None, unwrap_or, if◌then◌else◌}
+use Rattle.std.specs.Prelude.{ℕ, List, [], ◌∷◌, map, Option, Some, None, unwrap_or, if◌then◌else◌}
 use Rattle.std.specs.Option.{option_map, option_or}
-use Rattle.std.specs.List.{list_any}
 use Rattle.qz_syntax.specs.declared.statements.Stmt.{Stmt}
 use Rattle.qz_syntax.specs.declared.statements.Stmt.TheOpen.{Stmt-F}
 use Rattle.qz_syntax.specs.declared.statements.Stmt.TheFolds.{fold-Stmt}
 use Rattle.qz_syntax.specs.declared.modules.Module.{Module}
+use Rattle.qz_syntax.specs.Numbers.{contains}
 use Rattle.qz_syntax.specs.declared.places.Mark.{Mark}
 use Rattle.qz_syntax.specs.declared.places.Mark.TheVariants as mark
 
@@ -26,7 +26,7 @@ node_loops_round local (Stmt-F.If condition first second) = option_or first seco
 node_loops_round local (Stmt-F.Loop number body condition) = option_map (λ inner. number ∷ inner) body
 node_loops_round local (Stmt-F.Abort kind body condition) = body
 node_loops_round local (Stmt-F.Suspend kind hold body condition) = body
-node_loops_round local (Stmt-F.Scope locals body) = if list_any (λ other. other == local) locals then Some [] else body
+node_loops_round local (Stmt-F.Scope locals body) = if contains locals local then Some [] else body
 node_loops_round local (Stmt-F.Call number proto arguments) = None
 node_loops_round local (Stmt-F.Bind bindings body) = body
 

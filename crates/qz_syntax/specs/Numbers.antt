@@ -1,11 +1,15 @@
 -- The numbers in a tree, each kind as the list of them in tree order.
-use Rattle.std.specs.Prelude.{ℕ, Bool, false, List, [], ◌∷◌, ◌++◌, map, max, fold, ◌+◌}
+use Rattle.std.specs.Prelude.{ℕ, ◌==◌, Bool, false, List, [], ◌∷◌, ◌++◌, map, max, fold, ◌+◌}
 use Rattle.std.specs.Option.{option_to_list}
-use Rattle.std.specs.List.{concat, list_all}
+use Rattle.std.specs.List.{concat, list_all, list_any}
 use Rattle.qz_syntax.specs.declared.statements.Binding.{Binding}
 use Rattle.qz_syntax.specs.declared.statements.Stmt.{Stmt}
 use Rattle.qz_syntax.specs.declared.statements.Stmt.TheOpen.{Stmt-F}
 use Rattle.qz_syntax.specs.declared.statements.Stmt.TheFolds.{fold-Stmt}
+
+-- whether a number is among these
+abbrev pub contains : List ℕ → ℕ → Bool
+contains numbers n = list_any (λ number. number == n) numbers
 
 -- the results of a statement's parts, in tree order
 abbrev pub parts_of : {A : Type 0} → Stmt-F A → List A

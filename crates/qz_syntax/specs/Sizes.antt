@@ -1,5 +1,5 @@
 -- How large a tree is: a sum over its nodes, which are its statements, declarations and expressions.
-use Rattle.std.specs.Prelude.{ℕ, ◌+◌, ◌-◌, ◌*◌, ◌^◌, min, length}
+use Rattle.std.specs.Prelude.{ℕ, ◌+◌, ◌-◌, ◌*◌, ◌^◌, min, nat_lt, length, if◌then◌else◌}
 use Rattle.std.specs.List.{sum_by}
 use Rattle.qz_syntax.specs.declared.expressions.Expr.{Expr}
 use Rattle.qz_syntax.specs.declared.expressions.Expr.TheOpen.{Expr-F}
@@ -11,7 +11,7 @@ use Rattle.qz_syntax.specs.declared.statements.Stmt.{Stmt}
 use Rattle.qz_syntax.specs.declared.statements.Stmt.TheOpen.{Stmt-F}
 use Rattle.qz_syntax.specs.declared.statements.Stmt.TheFolds.{fold-Stmt}
 use Rattle.qz_syntax.specs.declared.modules.Module.{Module}
-use Rattle.qz_syntax.specs.Numbers.{parts_of}
+use Rattle.qz_syntax.specs.Numbers.{parts_of, depth_of}
 
 -- one expression, with the number of nodes of each operand in its place
 abbrev pub node_expression : Expr-F ℕ → ℕ
@@ -79,3 +79,12 @@ largest_size = 2 ^ 64 - 1
 -- the size of a module, which stops at the largest
 abbrev pub size_of : Module → ℕ
 size_of m = min (units_inside m.body 0) largest_size
+
+-- the deepest that a statement of a whole program may stand
+abbrev pub deepest : ℕ
+deepest = 2000
+
+-- The size of a whole program, in which each call is replaced by its callee's body: the call is its own node
+-- and those of its input arguments, and the body one deeper. It is the largest where a statement is too deep.
+abbrev pub whole_size_of : Module → ℕ
+whole_size_of m = if nat_lt deepest (depth_of m.body) then largest_size else size_of m

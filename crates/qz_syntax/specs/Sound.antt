@@ -71,8 +71,8 @@ is_hold_of kind (Some place) = kind.immediate
 is_hold_of kind None = if kind.immediate then false else true
 
 -- inside a scope its locals may be named too
-abbrev pub with_locals : Sight → List ℕ → Sight
-with_locals sight locals = record { locals = locals ++ sight.locals; bound = sight.bound }
+abbrev pub in_scope : Sight → List ℕ → Sight
+in_scope sight locals = record { locals = locals ++ sight.locals; bound = sight.bound }
 
 -- inside a bound body its arguments may be read too
 abbrev pub with_bound : Sight → List (ℕ × Ty) → Sight
@@ -92,7 +92,7 @@ node_is_sound declared (Stmt-F.Loop number body condition) sight = is_condition 
 node_is_sound declared (Stmt-F.Abort kind body condition) sight = is_condition (type_at declared sight condition) && body sight
 node_is_sound declared (Stmt-F.Suspend kind hold body condition) sight =
     is_hold_of kind hold && (is_condition (type_at declared sight condition) && body sight)
-node_is_sound declared (Stmt-F.Scope locals body) sight = nat_le 1 (length locals) && body (with_locals sight locals)
+node_is_sound declared (Stmt-F.Scope locals body) sight = nat_le 1 (length locals) && body (in_scope sight locals)
 node_is_sound declared (Stmt-F.Call number proto arguments) sight = is_call declared sight proto arguments
 node_is_sound declared (Stmt-F.Bind bindings body) sight =
     list_all (has_type declared sight) bindings && body (with_bound sight (types_bound declared sight bindings))

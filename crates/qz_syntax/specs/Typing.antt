@@ -1,7 +1,6 @@
 -- The types of expressions, and what may be read and written at a place of a tree.
 use Rattle.std.specs.Prelude.{ℕ, ◌^◌, Bool, true, false, ◌==◌, ◌&&◌, nat_lt, List, [], ◌∷◌, Option, Some, None, slice_get, if◌then◌else◌}
 use Rattle.std.specs.Option.{option_map, option_and_then}
-use Rattle.std.specs.List.{list_any}
 use Rattle.qz_values.specs.declared.Ty.{Ty}
 use Rattle.qz_values.specs.declared.Value.{Value}
 use Rattle.qz_values.specs.Types.{width_of, is_type, is_bool, is_same_type}
@@ -18,6 +17,7 @@ use Rattle.qz_syntax.specs.declared.expressions.Var.TheVariants as var
 use Rattle.qz_syntax.specs.declared.expressions.Expr.{Expr}
 use Rattle.qz_syntax.specs.declared.expressions.Expr.TheOpen.{Expr-F}
 use Rattle.qz_syntax.specs.declared.expressions.Expr.TheFolds.{fold-Expr}
+use Rattle.qz_syntax.specs.Numbers.{contains}
 
 -- a literal is a value of its type
 abbrev pub literal_type : Value → Option Ty
@@ -54,10 +54,6 @@ pub record Sight : Type 0 where
 abbrev pub no_sight : Sight
 no_sight = record { locals = []; bound = [] }
 
--- whether the number is one of those
-abbrev pub contains_number : List ℕ → ℕ → Bool
-contains_number numbers n = list_any (λ number. number == n) numbers
-
 -- the type that is bound to a number
 abbrev pub bound_type : List (ℕ × Ty) → ℕ → Option Ty
 bound_type [] n = None
@@ -67,7 +63,7 @@ bound_type (entry ∷ rest) n = if entry.0 == n then Some entry.1 else bound_typ
 abbrev pub read_type : Declared → Sight → Var → Option Ty
 read_type declared sight (var.Formal n) = option_map (λ (formal : Formal). formal.ty) (slice_get declared.formals n)
 read_type declared sight (var.Local n) =
-    if contains_number sight.locals n then option_map (λ (decl : Decl). decl.ty) (slice_get declared.decls n) else None
+    if contains sight.locals n then option_map (λ (decl : Decl). decl.ty) (slice_get declared.decls n) else None
 read_type declared sight (var.Bound n) = bound_type sight.bound n
 
 -- class and type of what may be written
@@ -87,7 +83,7 @@ decl_target decl = record { class = decl.class; ty = decl.ty }
 abbrev pub written_as : Declared → Sight → Var → Option Target
 written_as declared sight (var.Formal n) = option_and_then formal_target (slice_get declared.formals n)
 written_as declared sight (var.Local n) =
-    if contains_number sight.locals n then option_map decl_target (slice_get declared.decls n) else None
+    if contains sight.locals n then option_map decl_target (slice_get declared.decls n) else None
 written_as declared sight (var.Bound n) = None
 
 -- whether two classes are one
