@@ -5,11 +5,11 @@ use Rattle.std.proofs.lemmas.Option.{slice_get_within, slice_get-get_or, get_or_
 use Rattle.std.proofs.Math.ListN.{get_or-append}
 use Rattle.std.proofs.Math.Seq.{get_or-append_seam}
 use Rattle.indexmap.specs.IndexSet.{insert_key}
-use Rattle.qz_driver.specs.declared.verilog.Ref.{Ref}
-use Rattle.qz_driver.specs.declared.verilog.Ref.TheVariants as net
-use Rattle.qz_driver.specs.declared.verilog.Rhs.{Rhs}
+use Rattle.qz_verilog.specs.declared.nets.Ref.{Ref}
+use Rattle.qz_verilog.specs.declared.nets.Ref.TheVariants as net
+use Rattle.qz_verilog.specs.declared.nets.Rhs.{Rhs}
 use Rattle.qz_driver.specs.declared.wires.Wires.{Wires}
-use Rattle.qz_driver.specs.Verilog.{IsRightSide, IsDeclared}
+use Rattle.qz_driver.specs.BitNets.{IsRightSide, IsDeclared}
 use Rattle.qz_driver.specs.WireTable.{rights, Has, IsSound, Extends}
 use Rattle.qz_driver.specs.declared.driven.DrivenWrite.{DrivenWrite}
 use Rattle.qz_driver.specs.declared.driven.DrivenPlace.{DrivenPlace}
@@ -17,6 +17,7 @@ use Rattle.qz_driver.specs.Driven.{DeclaresRests, DeclaresWrites, DeclaresRow}
 
 -- what was declared stays so
 pub still_has : (registers : ℕ) (old new : Wires) (net : Ref) → Extends old new → Has registers old net → Has registers new net
+still_has registers old new (net.Input k) grows has = absurd has.declared
 still_has registers old new (net.Reg k) grows has = record { declared = has.declared }
 still_has registers old new (net.Wire k) grows has = record { declared = let a = has.declared in let b = grows.longer in omega arith }
 

@@ -2,8 +2,8 @@
 use Rattle.std.proofs.Common.{◌≡◌, ℕ, Bool, ◌==◌, ◌&&◌, ◌||◌, List, ◌∷◌, ◌++◌, length, take, drop, get_or, ap, ◌∙◌, subst, sym, arith}
 use Rattle.std.proofs.lemmas.Grind.{common_steps}
 use Rattle.std.proofs.Math.Bool.{or_assoc}
-use Rattle.qz_driver.specs.declared.verilog.Ref.{Ref}
-use Rattle.qz_driver.specs.Verilog.{Nets, bit_at}
+use Rattle.qz_verilog.specs.declared.nets.Ref.{Ref}
+use Rattle.qz_driver.specs.BitNets.{Nets, bit_at}
 use Rattle.qz_driver.specs.Mirror.{Bits, is_driven}
 use Rattle.qz_driver.specs.Driven.{AreDrivenAfter, IsDrivenMore}
 

@@ -3,6 +3,7 @@ use Rattle.std.proofs.Common.{refl, ◌+◌, zero, suc, ◌≤◌, nat_lt, ◌�
 use Rattle.std.specs.List.{range_with_len, list_all, AllByRecursion}
 use Rattle.std.proofs.lemmas.Bool.Decides.{nat_tests}
 use Rattle.std.proofs.lemmas.Bool.{and_parts}
+use Rattle.qz_values.specs.declared.Ty.{Ty}
 use Rattle.qz_values.specs.declared.Ty.TheVariants as ty
 use Rattle.qz_values.specs.Values.{no}
 use Rattle.qz_syntax.specs.declared.declarations.Formal.{Formal}
@@ -22,15 +23,15 @@ use Rattle.std.proofs.Math.Seq.{get_or-append_seam}
 use Rattle.qz_syntax.specs.declared.modules.Module.{Module}
 use Rattle.qz_driver.specs.declared.driven.DrivenWrite.{DrivenWrite}
 use Rattle.qz_driver.specs.declared.driven.DrivenPlace.{DrivenPlace}
-use Rattle.qz_driver.specs.declared.verilog.Ref.{Ref}
-use Rattle.qz_driver.specs.declared.verilog.Ref.TheVariants.{Reg}
-use Rattle.qz_driver.specs.declared.verilog.Rhs.{Rhs}
-use Rattle.qz_driver.specs.declared.verilog.VModule.{VModule}
+use Rattle.qz_verilog.specs.declared.nets.Ref.{Ref}
+use Rattle.qz_verilog.specs.declared.nets.Ref.TheVariants.{Reg}
+use Rattle.qz_verilog.specs.declared.nets.Rhs.{Rhs}
+use Rattle.qz_verilog.specs.declared.modules.VModule.{VModule}
 use Rattle.qz_driver.specs.declared.wires.Wires.{Wires}
 use Rattle.qz_driver.specs.Driven.{writes_as_bits, rests_as_bits, AreDriven, DeclaresRow}
 use Rattle.qz_driver.specs.Implements.{step_writes, step_rests, IsStep}
 use Rattle.qz_driver.specs.Mirror.{Bits, Control, mirror_of, is_driven}
-use Rattle.qz_driver.specs.Verilog.{Nets, Settles, IsClock, IsDeclared, IsBit, IsValid, bit_at}
+use Rattle.qz_driver.specs.BitNets.{Nets, Settles, IsBitClock, IsDeclared, IsBit, IsBitModule, bit_at, bool_wire, rights_of}
 use Rattle.qz_driver.specs.WireTable.{rights, Reads}
 
 -- a row of driven nets, read as bits
@@ -53,7 +54,7 @@ at_last row last =
 
 -- what the nets of a circuit mean in each reading of its table
 pub record IsMade (m : Module) (v : VModule) (table : Wires) (start always : Ref) (writes : List DrivenWrite) (rests : List DrivenPlace) : Type 0 where
-  pub wires : v.wires ≡ rights table
+  pub wires : rights_of v ≡ rights table
   pub starting : (nets : Nets) → Reads nets table → bit_at nets start ≡ not (nets.registers (length m.labels))
   pub always_true : (nets : Nets) → Reads nets table → bit_at nets always ≡ true
   pub written : (nets : Nets) → Reads nets table
@@ -67,7 +68,7 @@ pub record IsMade (m : Module) (v : VModule) (table : Wires) (start always : Ref
 
 module _ (m : Module) (v : VModule) (table : Wires) (start always : Ref) (writes : List DrivenWrite) (rests : List DrivenPlace)
     (made : IsMade m v table start always writes rests) where
-  pub clock_is_step : (registers : Control) (outs : List Bool) (next : Control) → IsClock v registers outs next → IsStep m registers outs next
+  pub clock_is_step : (registers : Control) (outs : List Bool) (next : Control) → IsBitClock v registers outs next → IsStep m registers outs next
   clock_is_step registers outs next clock =
       let nets : Nets = record { registers = registers; wires = clock.wires } in
       let P : List Rhs → Type 0 = λ wires. Settles wires nets in
@@ -122,15 +123,25 @@ all_bits : (places : ℕ) → AllByRecursion IsBit (replicate places no ++ no �
 all_bits zero = ((false, refl), tt)
 all_bits (suc places) = ((false, refl), all_bits places)
 
+-- wires of one bit
+bool_wires : (rights : List Rhs) → AllByRecursion (λ (wire : Ty × Rhs). wire.0 ≡ ty.Bool) (map bool_wire rights)
+bool_wires [] = tt
+bool_wires (right ∷ rights) = (refl, bool_wires rights)
+
+pub rights_there : (rights : List Rhs) → map (λ (wire : Ty × Rhs). wire.1) (map bool_wire rights) ≡ rights
+rights_there [] = refl
+rights_there (right ∷ rights) = ap (λ xs. right ∷ xs) (rights_there rights)
+
 module _ (v : VModule) (table : Wires) (registers : ℕ) where
   -- a module whose table is sound, and whose nets are the table's
-  pub is_valid : (m : Module) → IsFirst m → v.outputs ≡ map port_of m.formals → v.regs ≡ replicate (length m.labels) no ++ no ∷ []
-      → v.wires ≡ rights table → length v.regs ≡ registers → length v.nexts ≡ registers → length v.outs ≡ length v.outputs
-      → DeclaresRow registers table v.outs → DeclaresRow registers table v.nexts → IsValid v
-  is_valid m first ports begins wires regs clocked driven outs nexts =
+  pub is_bit_module : (m : Module) → IsFirst m → v.inputs ≡ [] → v.outputs ≡ map port_of m.formals → v.regs ≡ replicate (length m.labels) no ++ no ∷ []
+      → v.wires ≡ map bool_wire (rights table) → length v.regs ≡ registers → length v.nexts ≡ registers → length v.outs ≡ length v.outputs
+      → DeclaresRow registers table v.outs → DeclaresRow registers table v.nexts → IsBitModule v
+  is_bit_module m first none ports begins wires regs clocked driven outs nexts =
       let P : List Rhs → Type 0 = λ rights. AreSound registers rights in
-      let Q : ℕ → Type 0 = λ n. AreSound n v.wires in
-      let count : length v.wires ≡ length (rights table) = ap length wires in
+      let Q : ℕ → Type 0 = λ n. AreSound n (rights_of v) in
+      let rights_are : rights_of v ≡ rights table = ap (map (λ (wire : Ty × Rhs). wire.1)) wires ∙ rights_there (rights table) in
+      let count : length v.wires ≡ length (rights table) = ap length wires ∙ length-map (rights table) bool_wire in
       let declared = λ (row : List Ref) (all : DeclaresRow registers table row).
       let R : ℕ → ℕ → Type 0 = λ n k. AllByRecursion (IsDeclared n k) row in
       let here : R registers (length (rights table)) =
@@ -138,11 +149,13 @@ module _ (v : VModule) (table : Wires) (registers : ℕ) where
       let S : ℕ → Type 0 = λ n. R n (length v.wires) in
       subst S (sym regs) (subst (R registers) (sym count) here) in
       record {
+        inputs = none;
         names = subst (λ (some : List Port). IsTrue (are_distinct (map (λ (output : Port). output.name) some))) (sym ports)
             (subst (λ names. IsTrue (are_distinct names)) (port_names m.formals) first.names);
         bools = subst (λ (some : List Port). AllByRecursion (λ (output : Port). output.ty ≡ ty.Bool) some) (sym ports) (bool_ports m.formals first.formals);
         begins = subst (λ regs. AllByRecursion IsBit regs) (sym begins) (all_bits (length m.labels));
-        wires = subst Q (sym regs) (subst P (sym wires) outs.sound.each);
+        wires_are_bools = subst (λ (some : List (Ty × Rhs)). AllByRecursion (λ (wire : Ty × Rhs). wire.0 ≡ ty.Bool) some) (sym wires) (bool_wires (rights table));
+        wires = subst Q (sym regs) (subst P (sym rights_are) outs.sound.each);
         outs = declared v.outs outs;
         nexts = declared v.nexts nexts;
         driven = driven;

@@ -14,7 +14,8 @@ pub mod SameWalks
 pub mod BitVerdicts
 pub mod FirstSteps
 pub mod AlwaysDefinite
-pub mod SettleLemmas
+pub mod BitModules
+pub mod BitClocks
 pub mod ClockRuns
 pub mod Driving
 mod ReadingLemmas

@@ -5,7 +5,7 @@ use Rattle.std.specs.declared.alloc.AllocError.{AllocError}
 use Rattle.qz_syntax.specs.declared.modules.Module.{Module}
 use Rattle.qz_driver.specs.declared.source.SourceModule.{SourceModule}
 use Rattle.qz_driver.specs.declared.reader.NoSource.{NoSource}
-use Rattle.qz_driver.specs.declared.verilog.VModule.{VModule}
+use Rattle.qz_verilog.specs.declared.modules.VModule.{VModule}
 use Rattle.qz_driver.specs.FirstLanguage.{IsFirst}
 use Rattle.qz_driver.specs.Implements.{Implements}
 use Rattle.qz_driver.specs.VerilogText.{text_of}
@@ -14,7 +14,7 @@ use Rattle.qz_driver.specs.CoreTree.{IsAsked, core_module}
 use Rattle.qz_driver.specs.Texts.{IsTextOfProgram}
 use Rattle.qz_driver.proofs.FirstSources.{first_source}
 use Rattle.qz_driver.proofs.AlwaysDefinite.{always_definite}
-use Rattle.qz_driver.proofs.DoingPrograms.{implementation_does_program}
+use Rattle.qz_driver.proofs.DoingPrograms.{implementation_is_valid, implementation_does_program}
 
 -- what typing gives is a module of the first language
 pub first_of_typed : (name : List ℕ) (source : SourceModule) (r : Result Module NoSource) → FitsModule source
@@ -28,8 +28,9 @@ pub text_of_implementation : (program : Module) (v : VModule) (r : Result (Strin
 text_of_implementation program v (Ok text) first implements written = record {
   definite = always_definite program first;
   circuit = v;
-  valid = implements.valid first;
-  does = implementation_does_program v program first (implements.valid first) implements;
+  valid = implementation_is_valid v program first implements;
+  bits = implements.valid first;
+  does = implementation_does_program v program first implements;
   written = written;
 }
 text_of_implementation program v (Err fault) first implements written = tt

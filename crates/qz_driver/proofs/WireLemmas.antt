@@ -7,18 +7,19 @@ use Rattle.qz_values.specs.declared.Value.{Value}
 use Rattle.qz_values.specs.declared.Op2.{Op2}
 use Rattle.qz_values.specs.declared.Ty.{Ty}
 use Rattle.qz_values.specs.declared.Ty.TheVariants as ty
-use Rattle.qz_driver.specs.declared.verilog.Ref.{Ref}
-use Rattle.qz_driver.specs.declared.verilog.Ref.TheVariants as net
-use Rattle.qz_driver.specs.declared.verilog.Rhs.{Rhs}
-use Rattle.qz_driver.specs.declared.verilog.Rhs.TheVariants as rhs
-use Rattle.qz_driver.specs.contracts.verilog.RhsPartialEq.TheImpl.{eq-value}
-use Rattle.qz_driver.specs.contracts.verilog.RefPartialEq.TheImpl as ref
+use Rattle.qz_verilog.specs.declared.nets.Ref.{Ref}
+use Rattle.qz_verilog.specs.declared.nets.Ref.TheVariants as net
+use Rattle.qz_verilog.specs.declared.nets.Rhs.{Rhs}
+use Rattle.qz_verilog.specs.declared.nets.Rhs.TheVariants as rhs
+use Rattle.qz_verilog.specs.contracts.nets.RhsPartialEq.TheImpl.{eq-value}
+use Rattle.qz_verilog.specs.contracts.nets.RefPartialEq.TheImpl as ref
 use Rattle.qz_values.specs.contracts.ValuePartialEq.TheImpl as value
 use Rattle.qz_values.specs.contracts.TyPartialEq.TheImpl as type
 use Rattle.qz_values.specs.contracts.Op2PartialEq.TheImpl as operator
 use Rattle.qz_values.specs.contracts.Op2.{the_type}
 
 same_ref : (x y : Ref) → (ref.eq-value).it x y ≡ true → x ≡ y
+same_ref (net.Input a) (net.Input b) h = grind (arith, common_steps)
 same_ref (net.Reg a) (net.Reg b) h = grind (arith, common_steps)
 same_ref (net.Wire a) (net.Wire b) h = grind (arith, common_steps)
 same_ref x y h = cc
@@ -45,4 +46,22 @@ same_right_side (rhs.Bin o a b) (rhs.Bin p c d) h =
     let parts = and_parts ((operator.eq-value).it o p) nets h in
     let both = and_parts ((ref.eq-value).it a c) ((ref.eq-value).it b d) parts.1 in
     λ i. rhs.Bin (same_op o p parts.0 i) (same_ref a c both.0 i) (same_ref b d both.1 i)
+same_right_side (rhs.Choose x a b) (rhs.Choose y c d) h =
+    let nets = (ref.eq-value).it a c && (ref.eq-value).it b d in
+    let parts = and_parts ((ref.eq-value).it x y) nets h in
+    let both = and_parts ((ref.eq-value).it a c) ((ref.eq-value).it b d) parts.1 in
+    λ i. rhs.Choose (same_ref x y parts.0 i) (same_ref a c both.0 i) (same_ref b d both.1 i)
+same_right_side (rhs.Bit a m) (rhs.Bit b n) h =
+    let parts = and_parts ((ref.eq-value).it a b) (nat_eq m n) h in
+    let bits : m ≡ n = grind (arith, common_steps) in
+    λ i. rhs.Bit (same_ref a b parts.0 i) (bits i)
+same_right_side (rhs.Slice a m k) (rhs.Slice b n l) h =
+    let parts = and_parts ((ref.eq-value).it a b) (nat_eq m n && nat_eq k l) h in
+    let both = and_parts (nat_eq m n) (nat_eq k l) parts.1 in
+    let high : m ≡ n = grind (arith, common_steps) in
+    let low : k ≡ l = grind (arith, common_steps) in
+    λ i. rhs.Slice (same_ref a b parts.0 i) (high i) (low i)
+same_right_side (rhs.Concat a b) (rhs.Concat c d) h =
+    let both = and_parts ((ref.eq-value).it a c) ((ref.eq-value).it b d) h in
+    λ i. rhs.Concat (same_ref a c both.0 i) (same_ref b d both.1 i)
 same_right_side x y h = cc

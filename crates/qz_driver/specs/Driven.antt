@@ -2,10 +2,10 @@
 use Rattle.std.specs.Prelude.{ℕ, ◌≡◌, ◌<◌, ◌==◌, ◌&&◌, ◌||◌, List, ◌++◌, map, length, slice_index_or}
 use Rattle.qz_driver.specs.declared.driven.DrivenWrite.{DrivenWrite}
 use Rattle.qz_driver.specs.declared.driven.DrivenPlace.{DrivenPlace}
-use Rattle.qz_driver.specs.declared.verilog.Ref.{Ref}
+use Rattle.qz_verilog.specs.declared.nets.Ref.{Ref}
 use Rattle.qz_driver.specs.declared.wires.Wires.{Wires}
 use Rattle.qz_driver.specs.Mirror.{Bits, is_driven}
-use Rattle.qz_driver.specs.Verilog.{Nets, bit_at}
+use Rattle.qz_driver.specs.BitNets.{Nets, bit_at}
 use Rattle.qz_driver.specs.WireTable.{Reads, Has, IsSound}
 
 -- the places where control rests, each with whether it does

@@ -3,11 +3,11 @@ use Rattle.std.specs.Prelude.{ℕ, ◌≡◌, ◌<◌, Bool, true, not, List, []
 use Rattle.std.specs.List.{range_with_len}
 use Rattle.qz_values.specs.Values.{no}
 use Rattle.qz_syntax.specs.declared.modules.Module.{Module}
-use Rattle.qz_driver.specs.declared.verilog.VModule.{VModule}
+use Rattle.qz_verilog.specs.declared.modules.VModule.{VModule}
 use Rattle.qz_driver.specs.FirstLanguage.{IsFirst}
 use Rattle.qz_driver.specs.Does.{port_of}
 use Rattle.qz_driver.specs.Mirror.{Bits, Control, mirror_of, is_driven}
-use Rattle.qz_driver.specs.Verilog.{IsClock, IsValid}
+use Rattle.qz_driver.specs.BitNets.{IsBitClock, IsBitModule}
 
 -- a module is started in the step in which its last register is not set
 abbrev pub starts : Module → Control → Bool
@@ -34,5 +34,5 @@ pub record Implements (v : VModule) (m : Module) : Type 0 where
   pub outputs : v.outputs ≡ map port_of m.formals
   -- no place has control, and nothing is started
   pub begins : v.regs ≡ replicate (length m.labels) no ++ no ∷ []
-  pub clock : (registers : Control) (outs : List Bool) (next : Control) → IsClock v registers outs next → IsStep m registers outs next
-  pub valid : IsFirst m → IsValid v
+  pub clock : (registers : Control) (outs : List Bool) (next : Control) → IsBitClock v registers outs next → IsStep m registers outs next
+  pub valid : IsFirst m → IsBitModule v

@@ -18,8 +18,7 @@ pub mod FirstLanguage
 pub mod FirstWalk
 pub mod FirstResumes
 pub mod BitRuns
-pub mod Verilog
-pub mod VerilogLaws
+pub mod BitNets
 pub mod Does
 pub mod VerilogText
 pub mod WireTable

@@ -1,17 +1,19 @@
--- The text of a Verilog module, line by line, after IEEE 1364-2005.
+-- The text of a Verilog module of bits, line by line, after IEEE 1364-2005. It has no inputs, and its right sides are
+-- constants, `~`, `&` and `|`: of other nets and right sides nothing is written.
 use Rattle.std.specs.Prelude.{ℕ, ◌+◌, Bool, false, ◌==◌, ◌&&◌, ◌||◌, nat_le, List, [], ◌∷◌, ◌++◌, codes, if◌then◌else◌}
 use Rattle.std.specs.List.{flat_map}
 use Rattle.std.specs.Fmt.{decimal, digits}
+use Rattle.qz_values.specs.declared.Ty.{Ty}
 use Rattle.qz_values.specs.declared.Value.{Value}
 use Rattle.qz_values.specs.declared.Op2.{Op2}
 use Rattle.qz_values.specs.declared.Op2.TheVariants as op
 use Rattle.qz_values.specs.Values.{bits_of}
 use Rattle.qz_syntax.specs.declared.declarations.Port.{Port}
-use Rattle.qz_driver.specs.declared.verilog.Ref.{Ref}
-use Rattle.qz_driver.specs.declared.verilog.Ref.TheVariants as net
-use Rattle.qz_driver.specs.declared.verilog.Rhs.{Rhs}
-use Rattle.qz_driver.specs.declared.verilog.Rhs.TheVariants as rhs
-use Rattle.qz_driver.specs.declared.verilog.VModule.{VModule}
+use Rattle.qz_verilog.specs.declared.nets.Ref.{Ref}
+use Rattle.qz_verilog.specs.declared.nets.Ref.TheVariants as net
+use Rattle.qz_verilog.specs.declared.nets.Rhs.{Rhs}
+use Rattle.qz_verilog.specs.declared.nets.Rhs.TheVariants as rhs
+use Rattle.qz_verilog.specs.declared.modules.VModule.{VModule}
 
 -- ASCII letters, digits and `_`
 abbrev pub is_plain : ℕ → Bool
@@ -28,6 +30,7 @@ abbrev pub constant_text : Value → List ℕ
 constant_text value = if bits_of value == 1 then codes "1'b1" else codes "1'b0"
 
 abbrev pub net_text : Ref → List ℕ
+net_text (net.Input number) = []
 net_text (net.Reg number) = codes "r_" ++ decimal number
 net_text (net.Wire number) = codes "w_" ++ decimal number
 
@@ -40,6 +43,7 @@ abbrev pub right_side_text : Rhs → List ℕ
 right_side_text (rhs.Const value) = constant_text value
 right_side_text (rhs.Invert a) = codes "~" ++ net_text a
 right_side_text (rhs.Bin op a b) = net_text a ++ (sign_text op ++ net_text b)
+right_side_text other = []
 
 -- a line for each, by its number, of which this is the first one's
 abbrev pub numbered : {A : Type 0} → (ℕ → A → List ℕ) → ℕ → List A → List ℕ
@@ -52,9 +56,9 @@ port_line port = codes ",\n  output o_" ++ name_text port.name
 abbrev pub register_line : ℕ → Value → List ℕ
 register_line number value = codes "  reg r_" ++ (decimal number ++ codes ";\n")
 
-abbrev pub wire_lines : ℕ → Rhs → List ℕ
-wire_lines number right =
-    codes "  wire w_" ++ (decimal number ++ (codes ";\n  assign w_" ++ (decimal number ++ (codes " = " ++ (right_side_text right ++ codes ";\n")))))
+abbrev pub wire_lines : ℕ → Ty × Rhs → List ℕ
+wire_lines number wire =
+    codes "  wire w_" ++ (decimal number ++ (codes ";\n  assign w_" ++ (decimal number ++ (codes " = " ++ (right_side_text wire.1 ++ codes ";\n")))))
 
 -- the rest of an assignment after its left side
 abbrev pub driver_text : Ref → List ℕ

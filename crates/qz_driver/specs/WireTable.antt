@@ -1,9 +1,9 @@
 -- A table of wires as it grows: the values that settle it, and the nets that it declares.
 use Rattle.std.specs.Prelude.{ℕ, Bool, ◌≡◌, ◌≤◌, List, length, Some, slice_get}
 use Rattle.qz_driver.specs.declared.wires.Wires.{Wires}
-use Rattle.qz_driver.specs.declared.verilog.Ref.{Ref}
-use Rattle.qz_driver.specs.declared.verilog.Rhs.{Rhs}
-use Rattle.qz_driver.specs.Verilog.{Nets, bit_at, Settles, IsDeclared, IsRightSide}
+use Rattle.qz_verilog.specs.declared.nets.Ref.{Ref}
+use Rattle.qz_verilog.specs.declared.nets.Rhs.{Rhs}
+use Rattle.qz_driver.specs.BitNets.{Nets, bit_at, Settles, IsDeclared, IsRightSide}
 
 -- the right sides in the order of the wires' numbers
 abbrev pub rights : Wires → List Rhs

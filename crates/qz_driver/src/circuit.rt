@@ -7,17 +7,17 @@ ghost use Rattle.qz_driver.specs.Driven.{rests_as_bits, writes_as_bits, AreDrive
 ghost use Rattle.qz_driver.specs.Implements.{Implements};
 ghost use Rattle.qz_driver.specs.Mirror.{mirror_of};
 ghost use Rattle.qz_driver.specs.RestsBelow.{rests_below};
-ghost use Rattle.qz_driver.specs.Verilog.{Nets, bit_at};
+ghost use Rattle.qz_driver.specs.BitNets.{Nets, bit_at, bool_wire};
 ghost use Rattle.qz_driver.specs.WireTable.{Reads, Extends, Has, IsSound};
 
 use crate::control::{enter, moves};
 use crate::depth::depth;
 use crate::driven::{DrivenPlace, DrivenWrite};
 use crate::surface::surface;
-use crate::verilog::{Ref, VModule};
 use crate::wires::Wires;
 use qz_syntax::{Formal, Module, Port, Stmt};
-use qz_values::Value;
+use qz_values::{Ty, Value};
+use qz_verilog::{Ref, Rhs, VModule};
 use sqlite_items::Items;
 use std::alloc::{AllocError, Global};
 
@@ -36,9 +36,10 @@ pub fn circuit(alloc: Global, m: Module) -> Result<VModule, AllocError>
     let nexts = nexts(alloc, &mut wires, places, rests.as_slice(), always)?;
     Ok(VModule {
         name: m.name,
+        inputs: Items::new(alloc),
         outputs,
         regs: initial(alloc, places)?,
-        wires: Items::from_slice(alloc, wires.as_slice())?,
+        wires: bool_wires(alloc, wires.as_slice())?,
         outs: Items::from_vec(outs),
         nexts: Items::from_vec(nexts),
     })
@@ -179,6 +180,17 @@ fn drive(wires: &mut Wires, nets: &mut [Ref], number: usize, more: Ref) -> Resul
         nets[number] = wires.or(nets[number], more)?;
     }
     Ok(())
+}
+
+/// Each right side as a wire of one bit.
+fn bool_wires(alloc: Global, rights: &[Rhs]) -> Result<Items<(Ty, Rhs)>, AllocError>
+    ensures { IfOk result (λ wires. wires ≡ map bool_wire rights.now) }
+{
+    let mut wires = Items::new(alloc);
+    for right in rights {
+        wires.push((Ty::Bool, *right))?;
+    }
+    Ok(wires)
 }
 
 /// The initial values: no place has control, and nothing is started.

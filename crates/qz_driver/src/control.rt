@@ -3,7 +3,7 @@
 //! The register of a place says that control rests there.
 
 ghost use Rattle.std.specs.Prelude.{◌≡◌, ℕ, true, false, ◌&&◌, not, ◌++◌, [], ◌∷◌, map, IfOk, OnOk};
-ghost use Rattle.qz_driver.specs.Verilog.{Nets, bit_at};
+ghost use Rattle.qz_driver.specs.BitNets.{Nets, bit_at};
 ghost use Rattle.qz_driver.specs.WireTable.{Extends, Has, Carries};
 ghost use Rattle.qz_driver.specs.declared.wires.Wires.{Wires};
 ghost use Rattle.qz_driver.specs.RestsBelow.{rests_below, all_rest_below};
@@ -12,9 +12,9 @@ ghost use Rattle.qz_driver.specs.Mirror.{mirror_of, bit_of, all_at_once, enter_a
 
 use crate::driven::DrivenPlace;
 use crate::ends::{ends_after, leaves, turns};
-use crate::verilog::Ref;
 use crate::wires::Wires;
 use qz_syntax::{Expr, Stmt};
+use qz_verilog::Ref;
 use std::alloc::AllocError;
 
 /// The places where control rests after a start are appended. The answer is whether the start ends in

@@ -1,7 +1,7 @@
 //! What a statement does in a step in which control rests inside it.
 
 ghost use Rattle.std.specs.Prelude.{◌≡◌, ℕ, true, false, ◌&&◌, not, ◌++◌, map, OnOk, IfOk};
-ghost use Rattle.qz_driver.specs.Verilog.{bit_at};
+ghost use Rattle.qz_driver.specs.BitNets.{bit_at};
 ghost use Rattle.qz_driver.specs.WireTable.{Extends, Has, Carries};
 ghost use Rattle.qz_driver.specs.RestsBelow.{rests_below, all_rest_below};
 ghost use Rattle.qz_driver.specs.Driven.{DeclaresWrites, AppendsWrites};
@@ -10,9 +10,9 @@ ghost use Rattle.qz_driver.specs.Mirror.{mirror_of, ended_all, resume_all, turns
 use crate::driven::DrivenWrite;
 use crate::ends::{ends_after, leaves, turns};
 use crate::surface::surface;
-use crate::verilog::Ref;
 use crate::wires::Wires;
 use qz_syntax::{Expr, Stmt};
+use qz_verilog::Ref;
 use std::alloc::AllocError;
 
 /// The writes of a resume are appended. The answer is whether control rests in the statement and it

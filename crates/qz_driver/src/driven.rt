@@ -1,6 +1,6 @@
 //! What the walk over the statements appends for the circuit.
 
-use crate::verilog::Ref;
+use qz_verilog::Ref;
 
 /// An output is given a value.
 #[derive(Clone, Copy, Debug, PartialEq, Eq)]

@@ -1,13 +1,13 @@
 //! Where statements end, as nets over the ends of their parts.
 
 ghost use Rattle.std.specs.Prelude.{ℕ, ◌&&◌, ◌||◌, not, IfOk, OnOk};
-ghost use Rattle.qz_driver.specs.Verilog.{bit_at};
+ghost use Rattle.qz_driver.specs.BitNets.{bit_at};
 ghost use Rattle.qz_driver.specs.WireTable.{Extends, Has, IsSound, Declares, Carries};
 ghost use Rattle.qz_driver.specs.Mirror.{bit_of};
 
-use crate::verilog::{Ref, is_true};
-use crate::wires::Wires;
+use crate::wires::{Wires, is_true};
 use qz_syntax::Expr;
+use qz_verilog::Ref;
 use std::alloc::AllocError;
 
 /// The value of an expression.

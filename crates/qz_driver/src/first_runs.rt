@@ -14,8 +14,8 @@ ghost use Rattle.qz_driver.specs.Mirror.{Control, mirror_of};
 ghost use Rattle.qz_driver.specs.FirstLanguage.{is_first, IsFirst};
 ghost use Rattle.qz_driver.specs.FirstWalk.{StartsAs};
 ghost use Rattle.qz_driver.specs.FirstResumes.{IsControl, ResumesAs, IsStill};
-ghost use Rattle.qz_driver.specs.declared.verilog.VModule.{VModule};
-ghost use Rattle.qz_driver.specs.Verilog.{IsValid};
+ghost use Rattle.qz_verilog.specs.declared.modules.VModule.{VModule};
+ghost use Rattle.qz_verilog.specs.Validity.{IsValid};
 ghost use Rattle.qz_driver.specs.Implements.{Implements};
 ghost use Rattle.qz_meaning.specs.Programs.{program_of};
 ghost use Rattle.qz_driver.specs.Does.{DoesProgram};
@@ -46,7 +46,8 @@ pub fn first_programs_are_definite()
     ensures { (m : Module) → IsFirst m → IsAlwaysDefinite (program_of m) }
 {}
 
-/// A valid Verilog module that implements a module of the first language does its program.
+/// A Verilog module that implements a module of the first language is valid and does its program.
 pub fn an_implementation_does_the_program()
-    ensures { (v : VModule) (m : Module) → IsFirst m → IsValid v → Implements v m → DoesProgram v m }
+    ensures does { (v : VModule) (m : Module) → IsFirst m → Implements v m → DoesProgram v m }
+    ensures valid { (v : VModule) (m : Module) → IsFirst m → Implements v m → IsValid v }
 {}

@@ -22,8 +22,6 @@ mod surface;
 #[cfg(test)]
 mod tests;
 mod typing;
-mod verilog;
-pub mod verilog_laws;
 mod vtext;
 mod wires;
 mod words;

@@ -1,16 +1,16 @@
 //! What a statement does in the step in which it is started.
 
 ghost use Rattle.std.specs.Prelude.{ℕ, true, false, map, OnOk, IfOk};
-ghost use Rattle.qz_driver.specs.Verilog.{bit_at};
+ghost use Rattle.qz_driver.specs.BitNets.{bit_at};
 ghost use Rattle.qz_driver.specs.WireTable.{Extends, Has, Carries};
 ghost use Rattle.qz_driver.specs.Driven.{DeclaresWrites, AppendsWrites};
 ghost use Rattle.qz_driver.specs.Mirror.{mirror_of, driven, start_all, all_at_once};
 
 use crate::driven::DrivenWrite;
 use crate::ends::value;
-use crate::verilog::Ref;
 use crate::wires::Wires;
 use qz_syntax::{Expr, Stmt, Var};
+use qz_verilog::Ref;
 use std::alloc::AllocError;
 
 /// The writes of a start are appended. The answer is whether it ends in the same step.

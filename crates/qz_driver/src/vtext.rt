@@ -1,13 +1,14 @@
-//! The text of a Verilog module, line by line (IEEE 1364-2005).
+//! The text of a Verilog module of bits, line by line (IEEE 1364-2005): it has no inputs, and its
+//! right sides are constants, `~`, `&` and `|`.
 
 ghost use Rattle.std.specs.Prelude.{◌≡◌, ◌++◌, string_bytes, codes, drop, IfOk, OnOk};
 ghost use Rattle.std.specs.List.{flat_map};
 ghost use Rattle.std.specs.Str.{chars};
 ghost use Rattle.qz_driver.specs.VerilogText.{text_of, declarations_text, behavior_text, initial_text, clock_text, header_text, name_text, character_text, constant_text, net_text, sign_text, right_side_text, port_line, ports_text, driver_text, register_line, wire_lines, output_line, output_lines, initial_line, clock_line, numbered};
 
-use crate::verilog::{Ref, Rhs, VModule};
 use qz_syntax::{Name, Port};
-use qz_values::{Op2, Value};
+use qz_values::{Op2, Ty, Value};
+use qz_verilog::{Ref, Rhs, VModule};
 use std::alloc::{AllocError, Global};
 
 /// The text of a module.
@@ -97,20 +98,20 @@ fn register(text: &mut String, number: usize, value: Value) -> Result<(), AllocE
 }
 
 /// A declaration and an assignment for each wire.
-fn wires(text: &mut String, wires: &[Rhs]) -> Result<(), AllocError>
+fn wires(text: &mut String, wires: &[(Ty, Rhs)]) -> Result<(), AllocError>
     ensures { OnOk result (string_bytes text.new ≡ string_bytes text.old ++ numbered wire_lines 0 wires.now) }
 {
-    for (number, right) in wires.iter().enumerate() {
-        wire(text, number, *right)?;
+    for (number, one) in wires.iter().enumerate() {
+        wire(text, number, *one)?;
     }
     Ok(())
 }
 
-fn wire(text: &mut String, number: usize, right: Rhs) -> Result<(), AllocError>
-    ensures { OnOk result (string_bytes text.new ≡ string_bytes text.old ++ wire_lines number right) }
+fn wire(text: &mut String, number: usize, wire: (Ty, Rhs)) -> Result<(), AllocError>
+    ensures { OnOk result (string_bytes text.new ≡ string_bytes text.old ++ wire_lines number wire) }
 {
     write!(text, "  wire w_{number};\n  assign w_{number} = ")?;
-    push_right_side(text, right)?;
+    push_right_side(text, wire.1)?;
     text.push_str(";\n")?;
     Ok(())
 }
@@ -223,6 +224,7 @@ fn push_right_side(text: &mut String, right: Rhs) -> Result<(), AllocError>
             text.push_str(sign(op))?;
             push_net(text, b)
         }
+        Rhs::Choose(..) | Rhs::Bit(..) | Rhs::Slice(..) | Rhs::Concat(..) => Ok(()),
     }
 }
 
@@ -250,6 +252,7 @@ fn push_net(text: &mut String, net: Ref) -> Result<(), AllocError>
     ensures { OnOk result (string_bytes text.new ≡ string_bytes text.old ++ net_text net) }
 {
     match net {
+        Ref::Input(_) => Ok(()),
         Ref::Reg(number) => write!(text, "r_{number}"),
         Ref::Wire(number) => write!(text, "w_{number}"),
     }

@@ -1,13 +1,14 @@
 //! The wires of a circuit that is being made: equal right sides have one wire.
 
 ghost use Rattle.std.specs.Prelude.{◌≡◌, ℕ, ◌&&◌, ◌||◌, not, [], length, IfOk, IfSome};
-ghost use Rattle.qz_driver.specs.declared.verilog.Rhs.{Rhs};
-ghost use Rattle.qz_driver.specs.Verilog.{Nets, bit_at, right_side, IsRightSide};
+ghost use Rattle.qz_values.specs.Values.{is_yes};
+ghost use Rattle.qz_verilog.specs.declared.nets.Rhs.{Rhs};
+ghost use Rattle.qz_driver.specs.BitNets.{Nets, bit_at, right_bit, IsRightSide};
 ghost use Rattle.qz_driver.specs.WireTable.{rights, Reads, Extends, Has, IsSound, Declares, Carries};
 
-use crate::verilog::{Ref, Rhs, is_true};
 use indexmap::IndexSet;
-use qz_values::{Op2, Value};
+use qz_values::{Op2, Ty, Value};
+use qz_verilog::{Ref, Rhs};
 use std::alloc::{AllocError, Global};
 
 /// The wires so far, each at its number.
@@ -35,7 +36,7 @@ impl Wires {
     /// The wire with this right side.
     fn add(&mut self, rhs: Rhs) -> Result<Ref, AllocError>
         ensures extends { Extends self.old self.new }
-        ensures means { IfOk result (λ net. Carries self.new net (λ nets. right_side nets rhs)) }
+        ensures means { IfOk result (λ net. Carries self.new net (λ nets. right_bit nets rhs)) }
         ensures declares { IfOk result (λ net. (registers : ℕ) → IsSound registers self.old →
             IsRightSide registers (length (rights self.old)) rhs → Declares registers self.new net) }
     {
@@ -120,4 +121,11 @@ impl Wires {
             },
         }
     }
+}
+
+/// Whether the value is the bool `true`.
+pub fn is_true(value: Value) -> bool
+    ensures { result ≡ is_yes value }
+{
+    matches!(value.ty(), Ty::Bool) && value.bits() == 1
 }

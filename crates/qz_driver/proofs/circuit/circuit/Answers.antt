@@ -1,15 +1,17 @@
 use Rattle.std.proofs.Common.{◌+◌, arith, length-append, refl, ℕ, List, [], ◌∷◌, ◌++◌, map, not, length, replicate, ap, sym, ◌∙◌, subst}
 use Rattle.qz_values.specs.Values.{no}
 use Rattle.std.proofs.Math.ListN.{length-map, length-replicate}
-use Rattle.qz_driver.specs.declared.verilog.Ref.{Ref}
-use Rattle.qz_driver.specs.declared.verilog.Ref.TheVariants as net
+use Rattle.qz_verilog.specs.declared.nets.Ref.{Ref}
+use Rattle.qz_verilog.specs.declared.nets.Ref.TheVariants as net
 use Rattle.qz_driver.specs.declared.driven.DrivenWrite.{DrivenWrite}
 use Rattle.qz_driver.specs.declared.driven.DrivenPlace.{DrivenPlace}
 use Rattle.qz_driver.specs.Does.{port_of}
 use Rattle.qz_driver.specs.Driven.{writes_as_bits, rests_as_bits, AreDriven, DeclaresWrites, DeclaresRests, DeclaresRow}
-use Rattle.qz_driver.specs.Verilog.{Nets}
+use Rattle.qz_driver.specs.BitNets.{Nets, bool_wire}
+use Rattle.qz_values.specs.declared.Ty.{Ty}
+use Rattle.qz_verilog.specs.declared.nets.Rhs.{Rhs}
 use Rattle.qz_driver.specs.WireTable.{Reads, Has}
-use Rattle.qz_driver.proofs.Implementing.{clock_is_step, first_rests_below, is_valid, IsMade}
+use Rattle.qz_driver.proofs.Implementing.{clock_is_step, first_rests_below, is_bit_module, rights_there, IsMade}
 use Rattle.qz_driver.proofs.Growing.{through}
 use Rattle.qz_driver.proofs.Declaring.{still_has, sound_empty, writes_stay, rests_stay, row_stays}
 use Rattle.qz_driver.proofs.circuit.circuit.Goals as goal
@@ -24,7 +26,7 @@ returns c =
     let at_writes = λ (nets : Nets) (reads : Reads nets table). c.in_ok-rests.ensures.extends.reads nets (at_rests nets reads) in
     let at_always = λ (nets : Nets) (reads : Reads nets table). c.in_ok-writes.ensures.extends.reads nets (at_writes nets reads) in
     let made : IsMade c.args.m _ table c.in_ok-start.start c.in_ok-always.always writes rests = record {
-      wires = c.in_ok-from_slice.ensures ∙ c.as_slice-4.ensures;
+      wires = ap (map (λ (wire : Ty × Rhs). wire.1)) (c.in_ok-bool_wires.ensures ∙ ap (map bool_wire) c.as_slice-4.ensures) ∙ rights_there _;
       starting = λ nets reads. c.in_ok-start.ensures.means nets (c.constant.ensures.extends.reads nets (at_always nets reads))
           ∙ ap (λ (k : ℕ). not (nets.registers k)) c.len-places.ensures;
       always_true = λ nets reads. c.in_ok-always.ensures.means nets (at_always nets reads);
@@ -61,10 +63,11 @@ returns c =
           let nexts = c.in_ok-nexts.ensures.declares registers
           (subst Q (sym c.as_slice-3.ensures.value) (rests_stay registers _ _ c.in_ok-outs.ensures.extends outs.sound _ rested)) stays in
           let R : List Ref → Type 0 = λ row. DeclaresRow registers table row in
-          is_valid _ table registers c.args.m first
+          is_bit_module _ table registers c.args.m first
+          c.new.ensures
           (c.in_ok-outputs.ensures ∙ ap (map port_of) c.as_slice.ensures)
           (c.in_ok-initial.ensures ∙ ap (λ (n : ℕ). replicate n no ++ no ∷ []) c.len-places.ensures)
-          (c.in_ok-from_slice.ensures ∙ c.as_slice-4.ensures)
+          (c.in_ok-bool_wires.ensures ∙ ap (map bool_wire) c.as_slice-4.ensures)
           (ap length c.in_ok-initial.ensures ∙ length-append (replicate c.len-places.result no) (no ∷ [])
           ∙ ap (λ n. n + 1) (length-replicate c.len-places.result no ∙ c.len-places.ensures))
           (ap length c.from_vec-2.ensures ∙ c.in_ok-nexts.ensures.count ∙ ap (λ n. n + 1) c.len-places.ensures)

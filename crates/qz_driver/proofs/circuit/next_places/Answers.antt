@@ -2,11 +2,11 @@ use Rattle.std.proofs.Common.{◌≡◌, ◌+◌, List, length, drop, ap, ◌∙
 use Rattle.std.proofs.lemmas.List.{at_drop_more}
 use Rattle.qz_driver.proofs.Declaring.{still_has}
 use Rattle.qz_driver.specs.Driven.{DeclaresRow}
-use Rattle.qz_driver.specs.declared.verilog.Ref.{Ref}
-use Rattle.qz_driver.specs.declared.verilog.Ref.TheVariants.{Reg}
+use Rattle.qz_verilog.specs.declared.nets.Ref.{Ref}
+use Rattle.qz_verilog.specs.declared.nets.Ref.TheVariants.{Input}
 use Rattle.qz_driver.specs.declared.driven.DrivenPlace.{DrivenPlace}
 use Rattle.qz_driver.specs.Driven.{rests_as_bits, AreDrivenAfter}
-use Rattle.qz_driver.specs.Verilog.{bit_at}
+use Rattle.qz_driver.specs.BitNets.{bit_at}
 use Rattle.qz_driver.proofs.Growing.{through}
 use Rattle.qz_driver.proofs.Driving.{whole, one_more}
 use Rattle.qz_driver.proofs.circuit.next_places.Goals as goal
@@ -16,7 +16,7 @@ loop-rest-preserved c =
     let rests = c.args.rests.now in
     let old = c.loop-rest.nexts.items in
     let new = c.drive.new.nets in
-    let none : DrivenPlace = record { place = 0; when = Reg 0 } in
+    let none : DrivenPlace = record { place = 0; when = Input 0 } in
     let rest = get_or rests c.loop-rest.rest-index none in
     let kept : length new ≡ length c.as_mut_slice.result.now = c.drive.auto.nets in
     let length_is : length new ≡ length old = kept ∙ ap length c.as_mut_slice.ensures.value in

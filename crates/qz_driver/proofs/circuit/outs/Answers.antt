@@ -2,8 +2,8 @@ use Rattle.std.proofs.Common.{◌≡◌, ◌+◌, List, length, drop, ap, ◌∙
 use Rattle.std.proofs.lemmas.List.{at_drop_more}
 use Rattle.qz_driver.proofs.Declaring.{still_has, row_stays}
 use Rattle.qz_driver.specs.Driven.{DeclaresRow}
-use Rattle.qz_driver.specs.declared.verilog.Ref.{Ref}
-use Rattle.qz_driver.specs.declared.verilog.Ref.TheVariants.{Reg}
+use Rattle.qz_verilog.specs.declared.nets.Ref.{Ref}
+use Rattle.qz_verilog.specs.declared.nets.Ref.TheVariants.{Input}
 use Rattle.qz_driver.specs.declared.driven.DrivenWrite.{DrivenWrite}
 use Rattle.qz_driver.specs.Driven.{writes_as_bits, AreDrivenAfter}
 use Rattle.qz_driver.proofs.Growing.{through}
@@ -15,7 +15,7 @@ loop-write-preserved c =
     let writes = c.args.writes.now in
     let old = c.loop-write.outs.items in
     let new = c.drive.new.nets in
-    let none : DrivenWrite = record { output = 0; guard = Reg 0; value = Reg 0 } in
+    let none : DrivenWrite = record { output = 0; guard = Input 0; value = Input 0 } in
     let write = get_or writes c.loop-write.write-index none in
     let kept : length new ≡ length c.as_mut_slice.result.now = c.drive.auto.nets in
     let length_is : length new ≡ length old = kept ∙ ap length c.as_mut_slice.ensures.value in

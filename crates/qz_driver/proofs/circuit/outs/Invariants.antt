@@ -1,6 +1,6 @@
 use Rattle.std.proofs.Common.{ℕ, ◌≡◌, drop, length}
 use Rattle.qz_driver.specs.Driven.{DeclaresWrites, DeclaresRow}
-use Rattle.qz_driver.specs.Verilog.{Nets}
+use Rattle.qz_driver.specs.BitNets.{Nets}
 use Rattle.qz_driver.specs.WireTable.{Reads, Extends}
 use Rattle.qz_driver.specs.Driven.{writes_as_bits, AreDrivenAfter}
 use Rattle.qz_driver.proofs.circuit.outs.Given as goal

@@ -2,7 +2,7 @@ use Rattle.std.proofs.Common.{ℕ, true, ◌≡◌, ◌&&◌, ◌++◌, map, dro
 use Rattle.qz_driver.specs.WireTable.{Reads, Extends, Has}
 use Rattle.qz_driver.specs.RestsBelow.{all_rest_below}
 use Rattle.qz_driver.specs.Driven.{rests_as_bits, DeclaresRests}
-use Rattle.qz_driver.specs.Verilog.{Nets, bit_at}
+use Rattle.qz_driver.specs.BitNets.{Nets, bit_at}
 use Rattle.qz_driver.specs.Mirror.{mirror_of, enter_all, all_at_once}
 use Rattle.qz_driver.proofs.control.+enter.Given as goal
 

@@ -1,7 +1,7 @@
 use Rattle.std.proofs.Common.{◌∙◌, ap, ◌&&◌, not}
 use Rattle.qz_driver.proofs.Declaring.{still_has, writes_stay}
 use Rattle.qz_driver.proofs.Walks.{member_below, ended_by, ended_step, resume_step, appended_again}
-use Rattle.qz_driver.specs.Verilog.{bit_at}
+use Rattle.qz_driver.specs.BitNets.{bit_at}
 use Rattle.qz_driver.specs.Mirror.{mirror_of, bit_of}
 use Rattle.qz_driver.proofs.Growing.{through}
 use Rattle.qz_driver.proofs.depth.+depth.Goals as goal

@@ -2,7 +2,7 @@ use Rattle.std.proofs.Common.{ℕ, true, ◌≡◌, ◌++◌, map, drop, false}
 use Rattle.qz_driver.specs.WireTable.{Reads, Extends, Has}
 use Rattle.qz_driver.specs.RestsBelow.{all_rest_below}
 use Rattle.qz_driver.specs.Driven.{writes_as_bits, DeclaresWrites}
-use Rattle.qz_driver.specs.Verilog.{Nets, bit_at}
+use Rattle.qz_driver.specs.BitNets.{Nets, bit_at}
 use Rattle.qz_driver.specs.Mirror.{mirror_of, ended_all, resume_all}
 use Rattle.qz_driver.proofs.depth.+depth.Given as goal
 

@@ -1,7 +1,7 @@
 use Rattle.std.proofs.Common.{ℕ, ◌≡◌, ◌&&◌, ◌++◌, map, drop}
 use Rattle.qz_driver.specs.WireTable.{Reads, Extends, Has}
 use Rattle.qz_driver.specs.Driven.{writes_as_bits, DeclaresWrites}
-use Rattle.qz_driver.specs.Verilog.{Nets, bit_at}
+use Rattle.qz_driver.specs.BitNets.{Nets, bit_at}
 use Rattle.qz_driver.specs.Mirror.{mirror_of, start_all, all_at_once}
 use Rattle.qz_driver.proofs.surface.+surface.Given as goal
 

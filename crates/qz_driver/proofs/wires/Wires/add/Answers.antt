@@ -1,8 +1,8 @@
 use Rattle.qz_driver.specs.WireTable.{rights}
 use Rattle.std.proofs.Common.{List, subst, ap, ◌∙◌, sym}
-use Rattle.qz_driver.specs.Verilog.{right_side}
-use Rattle.qz_driver.specs.declared.verilog.Rhs.{Rhs}
-use Rattle.qz_driver.specs.contracts.verilog.RhsPartialEq.TheImpl.{eq-value}
+use Rattle.qz_driver.specs.BitNets.{right_bit}
+use Rattle.qz_verilog.specs.declared.nets.Rhs.{Rhs}
+use Rattle.qz_verilog.specs.contracts.nets.RhsPartialEq.TheImpl.{eq-value}
 use Rattle.qz_driver.proofs.Declaring.{AreSound, sound_insert}
 use Rattle.qz_driver.proofs.WireLemmas.{same_right_side}
 use Rattle.qz_driver.proofs.wires.Wires.add.Goals as goal
@@ -10,7 +10,7 @@ use Rattle.qz_driver.proofs.wires.Wires.add.Goals as goal
 pub returns-clause-means : goal.returns-clause-means
 returns-clause-means c = λ nets reads.
     let h = c.in_ok-number.ensures.stored in
-    reads.settles _ h.0 h.1 ∙ ap (right_side nets) (sym (same_right_side c.args.rhs h.0 h.2))
+    reads.settles _ h.0 h.1 ∙ ap (right_bit nets) (sym (same_right_side c.args.rhs h.0 h.2))
 
 pub returns-clause-declares : goal.returns-clause-declares
 returns-clause-declares c = λ registers sound reads.
