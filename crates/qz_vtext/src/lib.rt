@@ -1,0 +1,11 @@
+//! The Verilog text of a module, written and read.
+//!
+//! Each valid module has one text, and each text is of one module. The constructs follow IEEE
+//! 1364-2005.
+#![tactic(auto)]
+
+mod pen;
+mod spell;
+mod write;
+
+pub use write::write_v;
