@@ -1,4 +1,4 @@
-//! The Verilog text of a module, written and read.
+//! The Verilog text of a module.
 //!
 //! Each valid module has one text, and each text is of one module. The constructs follow IEEE
 //! 1364-2005.
@@ -6,6 +6,8 @@
 
 mod pen;
 mod spell;
+#[cfg(test)]
+mod tests;
 mod write;
 
 pub use write::write_v;
