@@ -1,4 +1,3 @@
-mod NumberedLines
 pub mod WireLemmas
 pub mod Growing
 pub mod Walks

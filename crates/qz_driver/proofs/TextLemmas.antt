@@ -1,5 +1,5 @@
 -- The text of what is built, put together.
-use Rattle.std.proofs.Common.{◌≡◌, ℕ, List, Result, Ok, Err, IfOk, String, string_bytes, sym, subst}
+use Rattle.std.proofs.Common.{◌≡◌, ℕ, List, Result, Ok, Err, IfOk, Vec, sym, subst}
 use Rattle.std.specs.declared.alloc.Global.{Global}
 use Rattle.std.specs.declared.alloc.AllocError.{AllocError}
 use Rattle.qz_syntax.specs.declared.modules.Module.{Module}
@@ -8,13 +8,13 @@ use Rattle.qz_driver.specs.declared.reader.NoSource.{NoSource}
 use Rattle.qz_verilog.specs.declared.modules.VModule.{VModule}
 use Rattle.qz_driver.specs.FirstLanguage.{IsFirst}
 use Rattle.qz_driver.specs.Implements.{Implements}
-use Rattle.qz_driver.specs.VerilogText.{text_of}
+use Rattle.qz_vtext.specs.Text.{IsTextOf}
 use Rattle.qz_driver.specs.Grammar.{FitsModule}
 use Rattle.qz_driver.specs.CoreTree.{IsAsked, core_module}
 use Rattle.qz_driver.specs.Texts.{IsTextOfProgram}
 use Rattle.qz_driver.proofs.FirstSources.{first_source}
 use Rattle.qz_driver.proofs.AlwaysDefinite.{always_definite}
-use Rattle.qz_driver.proofs.DoingPrograms.{implementation_is_valid, implementation_does_program}
+use Rattle.qz_driver.proofs.DoingPrograms.{implementation_does_program}
 
 -- what typing gives is a module of the first language
 pub first_of_typed : (name : List ℕ) (source : SourceModule) (r : Result Module NoSource) → FitsModule source
@@ -23,13 +23,11 @@ first_of_typed name source (Ok m) fits asked core = subst IsFirst (sym core) (fi
 first_of_typed name source (Err fault) fits asked core = tt
 
 -- the text of a circuit that implements a module of the first language
-pub text_of_implementation : (program : Module) (v : VModule) (r : Result (String Global) AllocError) → IsFirst program → Implements v program
-    → IfOk r (λ text. string_bytes text ≡ text_of v) → IfOk r (λ text. IsTextOfProgram program (string_bytes text))
+pub text_of_implementation : (program : Module) (v : VModule) (r : Result (Vec ℕ Global) AllocError) → IsFirst program → Implements v program
+    → IfOk r (λ text. IsTextOf v text.items) → IfOk r (λ text. IsTextOfProgram program text.items)
 text_of_implementation program v (Ok text) first implements written = record {
   definite = always_definite program first;
   circuit = v;
-  valid = implementation_is_valid v program first implements;
-  bits = implements.valid first;
   does = implementation_does_program v program first implements;
   written = written;
 }

@@ -20,7 +20,6 @@ pub mod FirstResumes
 pub mod BitRuns
 pub mod BitNets
 pub mod Does
-pub mod VerilogText
 pub mod WireTable
 pub mod Driven
 pub mod Implements

@@ -16,11 +16,11 @@ use crate::limits::MAX_SOURCE;
 use crate::reader::{NoSource, read_source};
 use crate::refusal::Refusal;
 use crate::typing::typed;
-use crate::vtext::write_v;
 use crate::words::Build;
 use crate::work::{Output, Stop};
 use qz_io::{FileFault, Files, Got};
 use qz_syntax::Module;
+use qz_vtext::write_v;
 use std::alloc::{AllocError, Global};
 
 /// Reads the file, and makes the text of the module that was asked for.
@@ -44,23 +44,20 @@ pub fn build<'w, F: Files>(
 }
 
 /// The file in which the text of the module of this name is put.
-fn verilog_file<'w>(alloc: Global, name: &str, text: String) -> Result<Output, Stop<'w>>
+fn verilog_file<'w>(alloc: Global, name: &str, text: Vec<u8>) -> Result<Output, Stop<'w>>
     ensures name { IfOk result (λ output. string_bytes output.name ≡ verilog_name name.now) }
-    ensures bytes { IfOk result (λ output. output.bytes.items ≡ string_bytes text) }
+    ensures bytes { IfOk result (λ output. output.bytes.items ≡ text.items) }
     ensures err { IfErr result (λ stop. stop ≡ Stop.Memory) }
 {
     let name = format!(in alloc; "{name}.v")?;
-    Ok(Output {
-        name,
-        bytes: text.into_bytes(),
-    })
+    Ok(Output { name, bytes: text })
 }
 
 /// The Verilog text of the module that was asked for, from what was found under the file's name.
-fn verilog_of<'w>(alloc: Global, asked: Build<'w>, got: &Got) -> Result<String, Stop<'w>>
+fn verilog_of<'w>(alloc: Global, asked: Build<'w>, got: &Got) -> Result<Vec<u8>, Stop<'w>>
     requires { IfBytes got.now (λ bytes. length bytes ≤ 1048576) }
     ensures { MatchResult result
-        (λ text. BuildMakes asked.entry.name.now (content_of got.now ∷ []) (string_bytes text))
+        (λ text. BuildMakes asked.entry.name.now (content_of got.now ∷ []) text.items)
         (λ stop. StopsAt asked.entry.name.now asked.entry.file.now (content_of got.now) stop) }
 {
     match got {
@@ -71,11 +68,11 @@ fn verilog_of<'w>(alloc: Global, asked: Build<'w>, got: &Got) -> Result<String, 
 }
 
 /// The same from the file's bytes.
-fn verilog_of_text<'w>(alloc: Global, asked: Build<'w>, bytes: &[u8]) -> Result<String, Stop<'w>>
+fn verilog_of_text<'w>(alloc: Global, asked: Build<'w>, bytes: &[u8]) -> Result<Vec<u8>, Stop<'w>>
     requires { length bytes.now ≤ 1048576 }
     ensures built { OnOk result (IsBuilt asked.entry.name.now bytes.now) }
     ensures stops { IfErr result (StopsInText asked.entry.name.now asked.entry.file.now bytes.now) }
-    ensures does { IfOk result (λ text. HasCircuit asked.entry.name.now bytes.now (string_bytes text)) }
+    ensures does { IfOk result (λ text. HasCircuit asked.entry.name.now bytes.now text.items) }
 {
     match asked_module(alloc, asked.name, bytes) {
         Ok(module) => match instant_loop(&module.body) {
@@ -104,9 +101,9 @@ fn asked_module(alloc: Global, name: &str, bytes: &[u8]) -> Result<Module, NoSou
 }
 
 /// The text of the circuit that does the module's program.
-fn text_of_module(alloc: Global, program: Module) -> Result<String, AllocError>
+fn text_of_module(alloc: Global, program: Module) -> Result<Vec<u8>, AllocError>
     requires { IsFirst program }
-    ensures { IfOk result (λ text. IsTextOfProgram program (string_bytes text)) }
+    ensures { IfOk result (λ text. IsTextOfProgram program text.items) }
 {
     let circuit = circuit(alloc, program)?;
     write_v(alloc, &circuit)

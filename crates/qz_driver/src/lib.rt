@@ -22,7 +22,6 @@ mod surface;
 #[cfg(test)]
 mod tests;
 mod typing;
-mod vtext;
 mod wires;
 mod words;
 mod work;

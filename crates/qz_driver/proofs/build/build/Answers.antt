@@ -1,4 +1,4 @@
-use Rattle.std.proofs.Common.{◌≡◌, Some, string_bytes}
+use Rattle.std.proofs.Common.{◌≡◌, Some}
 use Rattle.qz_io.specs.Counts.{Rose}
 use Rattle.qz_io.specs.declared.answers.Got.{Got}
 use Rattle.qz_driver.specs.Answers.{FilesSeen, files_seen}
@@ -22,7 +22,7 @@ returns-in-Ok-verilog_of g c =
     let got = c.in-Ok in
     let told : Told 1048576 c.args.asked.file.now old.held got.got = record { absent = got.ensures.absent; too_long = got.ensures.too_long; bytes = got.ensures.bytes; within = got.ensures.within } in
     let same : new ≡ old = same_files old new got.ensures.held_stays got.ensures.read_faults_stay got.ensures.write_faults_stay got.ensures.missed_stays in
-    works c.args.asked.name.now c.args.asked.file.now old new got.got (string_bytes c.in-Ok-verilog_of.text) c.verilog_file.result told same
+    works c.args.asked.name.now c.args.asked.file.now old new got.got c.in-Ok-verilog_of.text.items c.verilog_file.result told same
     c.in-Ok-verilog_of.ensures c.verilog_file.ensures.name c.verilog_file.ensures.bytes c.verilog_file.ensures.err
 
 pub returns : goal.returns

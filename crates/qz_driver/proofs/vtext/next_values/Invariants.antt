@@ -1,9 +1,0 @@
--- What is written, with the lines that are still to come, is all that is wanted.
-use Rattle.std.proofs.Common.{◌≡◌, ◌++◌, drop, string_bytes}
-use Rattle.qz_driver.specs.VerilogText.{clock_line, numbered}
-use Rattle.qz_driver.proofs.vtext.next_values.Given as goal
-
-abbrev pub invariant-loop-number : goal.invariant-loop-number
-invariant-loop-number l =
-    string_bytes l.text ++ numbered clock_line l.number (drop l.number l.nexts)
-    ≡ string_bytes l.initial.text ++ numbered clock_line 0 l.nexts
