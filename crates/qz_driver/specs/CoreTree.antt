@@ -10,6 +10,7 @@ use Rattle.qz_syntax.specs.declared.statements.Stmt.TheVariants as stmt
 use Rattle.qz_syntax.specs.declared.modules.Module.{Module}
 use Rattle.qz_syntax.specs.Sizes.{size_of}
 use Rattle.qz_syntax.specs.DoubleNames.{formal_names, are_distinct}
+use Rattle.qz_driver.specs.Limits.{most_formals, largest_module}
 use Rattle.qz_driver.specs.declared.source.SourceModule.{SourceModule}
 use Rattle.qz_driver.specs.declared.source.SourceStmt.{SourceStmt}
 use Rattle.qz_driver.specs.declared.source.SourceStmt.TheOpen.{SourceStmt-F}
@@ -92,11 +93,11 @@ core_module source =
       body = sequence body.stmts;
     }
 
--- The source has the name that was asked for, at most 256 formals whose names differ, what it emits are
--- formals, and its size is at most 100,000.
+-- The source has the name that was asked for, no more formals than may be, whose names differ, what it emits are
+-- formals, and it is no larger than may be.
 pub record IsAsked (name : List ℕ) (source : SourceModule) : Type 0 where
   pub named : source.name ≡ chars name
-  pub few : length source.formals ≤ 256
+  pub few : length source.formals ≤ most_formals
   pub differ : IsTrue (are_distinct (formal_names source.formals))
   pub emits : IsTrue (list_all (λ emits. emits) (map (emits_among (formal_names source.formals)) source.body))
-  pub small : size_of (core_module source) ≤ 100000
+  pub small : size_of (core_module source) ≤ largest_module

@@ -8,6 +8,7 @@ use Rattle.qz_syntax.specs.Spelling.{is_name}
 use Rattle.qz_syntax.specs.declared.declarations.Class.TheVariants.{Event}
 use Rattle.qz_syntax.specs.declared.declarations.Dir.TheVariants.{Out}
 use Rattle.qz_syntax.specs.declared.declarations.Formal.{Formal}
+use Rattle.qz_driver.specs.Limits.{largest_source, most_levels}
 use Rattle.qz_driver.specs.declared.source.SourceModule.{SourceModule}
 use Rattle.qz_driver.specs.declared.source.SourceStmt.{SourceStmt}
 use Rattle.qz_driver.specs.declared.source.SourceStmt.TheOpen.{SourceStmt-F}
@@ -55,14 +56,14 @@ node_has_names (SourceStmt-F.Block parts) = list_all (λ part. part) parts
 abbrev pub has_names : SourceStmt → Bool
 has_names = fold-SourceStmt Bool node_has_names
 
--- a statement whose own level is this one, with no level above 128
+-- a statement whose own level is this one, with no level above the limit
 pub record Fits (level : ℕ) (s : SourceStmt) : Type 0 where
-  pub levels : level + levels s ≤ 129
+  pub levels : level + levels s ≤ most_levels + 1
   pub names : IsTrue (has_names s)
 
 -- some statements whose own level is this one
 pub record AllFit (level : ℕ) (parts : List SourceStmt) : Type 0 where
-  pub levels : level + most (map levels parts) ≤ 129
+  pub levels : level + most (map levels parts) ≤ most_levels + 1
   pub names : IsTrue (list_all (λ part. part) (map has_names parts))
 
 -- the formal that is an output event of this name
@@ -94,7 +95,7 @@ formals_spelling (formal ∷ formals) = formal_spelling formal ++ later_formals_
 abbrev pub module_spelling : SourceModule → List (List ℕ)
 module_spelling m = codes "module" ∷ m.name ∷ codes "(" ∷ (formals_spelling m.formals ++ codes "{" ∷ block_spelling m.body)
 
--- a module whose names are names, with no level above 128: its block has level 1
+-- a module whose names are names, with no level above the limit: its block has level 1
 pub record FitsModule (m : SourceModule) : Type 0 where
   pub name : IsTrue (is_name m.name)
   pub formals : AreOutputs m.formals
@@ -102,7 +103,7 @@ pub record FitsModule (m : SourceModule) : Type 0 where
 
 -- the bytes are a text of the first language, and it describes this module
 pub record IsSource (bytes : List ℕ) (m : SourceModule) : Type 0 where
-  pub length : length bytes ≤ 1048576
+  pub length : length bytes ≤ largest_source
   pub ascii : IsAscii bytes
   -- only comments have a slash
   pub no_comment : ¬ Contains bytes 47
