@@ -1,0 +1,12 @@
+use Rattle.std.proofs.Common.{◌≡◌, ◌+◌, ◌∷◌, drop, arith}
+use Rattle.std.proofs.lemmas.List.{drop_more}
+use Rattle.qz_types.proofs.FaultLemmas.{first_with_append}
+use Rattle.qz_types.proofs.arguments.own.Goals as goal
+
+pub loop-argument-preserved : goal.loop-argument-preserved
+loop-argument-preserved c =
+    let i = c.loop-argument.argument-index in
+    let xs = c.args.arguments.now in
+    let split : drop i xs ≡ c.argument-item.result ∷ drop (i + 1) xs = rw c.argument-item.is (drop_more xs i c.argument-item.result (omega arith)) in
+    let so_far = rw split at c.loop-argument.invariant in
+    rw (c.type_of.ensures.faults, ← first_with_append) so_far

@@ -1,0 +1,9 @@
+pub mod ArgumentFaults
+pub mod Declarations
+pub mod ExpressionTypes
+pub mod Faults
+pub mod FileFaults
+pub mod Meanings
+pub mod Scopes
+pub mod StatementFaults
+pub mod WrittenTypes
