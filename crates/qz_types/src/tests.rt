@@ -208,252 +208,243 @@ fn row_of(fault: Option<Fault>) -> Row {
     }
 }
 
-/// What is said first of a module `A` with those formals, a local `mem x` at 5 and two statements.
-fn both(alloc: Global, first: Made, second: Made) -> Result<Row, AllocError> {
+/// What is said first of a module with those formals, a local `mem x` at 5 and a statement.
+fn says(alloc: Global, module: &str, s: Made) -> Result<Row, AllocError> {
     let decl = local(alloc, TypeText::Bool, "x", 5);
-    let body = block(alloc, decl, first, second);
-    let f = file(alloc, "A", formals(alloc), body)?;
+    let body = block(alloc, decl, s, Ok(FileStmt::Nothing));
+    let f = file(alloc, module, formals(alloc), body)?;
     Ok(row_of(first_fault(alloc, &f)?))
 }
 
-fn says(alloc: Global, s: Made) -> Result<Row, AllocError> {
-    both(alloc, s, Ok(FileStmt::Nothing))
-}
-
-/// The same of `m = e;`.
-fn values(alloc: Global, e: Value) -> Result<Row, AllocError> {
-    says(alloc, assign(alloc, "m", e))
-}
-
-#[test]
-fn expressions(rt: HostRuntime) -> Result<(), Fail> {
-    let a = rt.alloc();
-    let n = variable(a, "n", 20);
-    assert_eq!(rt; values(a, byte(255, 28))?, None);
-    assert_eq!(rt;
-        values(a, byte(256, 28))?,
-        Some((28, TypeKind::LiteralRange))
-    );
-    let wide = Ok(FileExpr::Lit {
-        width: 65,
+/// A literal of that many bits.
+fn zeros(width: u128, at: u32) -> Value {
+    Ok(FileExpr::Lit {
+        width,
         value: 0,
-        at: 28,
-    });
-    assert_eq!(rt; values(a, wide)?, Some((28, TypeKind::WidthRange)));
-    assert_eq!(rt;
-        values(a, variable(a, "q", 20))?,
-        Some((20, TypeKind::UnknownName))
-    );
-    assert_eq!(rt;
-        values(a, one(a, Op1::Not, 19, n))?,
-        Some((19, TypeKind::TypeDiffers))
-    );
-    let sum = two(a, Op2::Add, 22, variable(a, "n", 20), variable(a, "i", 24));
-    assert_eq!(rt; values(a, sum)?, Some((22, TypeKind::TypeDiffers)));
-    let chosen = choice(
-        a,
-        22,
-        variable(a, "n", 20),
-        variable(a, "q", 24),
-        variable(a, "n", 26),
-    );
-    assert_eq!(rt; values(a, chosen)?, Some((24, TypeKind::UnknownName)));
-    let chosen = choice(
-        a,
-        22,
-        variable(a, "n", 20),
-        variable(a, "n", 24),
-        variable(a, "n", 26),
-    );
-    assert_eq!(rt; values(a, chosen)?, Some((22, TypeKind::TypeDiffers)));
+        at,
+    })
+}
+
+/// What is assigned to `m`.
+#[derive(Clone, Copy)]
+enum Assigned {
+    Literal(u128),
+    Zeros(u128),
+    Name(&'static str),
+    NotVector,
+    SumWithBool,
+    ChoiceOfUnknown,
+    ChoiceByVector,
+    Selection(u128, Option<u128>),
+    SelectionOfBool,
+    Joined(u128),
+    JoinedWithBool,
+}
+
+fn value_of(alloc: Global, e: Assigned) -> Value {
+    let vector = |at: u32| variable(alloc, "n", at);
+    match e {
+        Assigned::Literal(value) => byte(value, 28),
+        Assigned::Zeros(width) => zeros(width, 28),
+        Assigned::Name(text) => variable(alloc, text, 20),
+        Assigned::NotVector => one(alloc, Op1::Not, 19, vector(20)),
+        Assigned::SumWithBool => two(alloc, Op2::Add, 22, vector(20), variable(alloc, "i", 24)),
+        Assigned::ChoiceOfUnknown => {
+            choice(alloc, 22, vector(20), variable(alloc, "q", 24), vector(26))
+        }
+        Assigned::ChoiceByVector => choice(alloc, 22, vector(20), vector(24), vector(26)),
+        Assigned::Selection(high, low) => select(alloc, 21, vector(20), high, low),
+        Assigned::SelectionOfBool => select(alloc, 21, variable(alloc, "i", 20), 0, None),
+        Assigned::Joined(width) => joined(alloc, 22, vector(20), zeros(width, 24)),
+        Assigned::JoinedWithBool => joined(alloc, 22, vector(20), variable(alloc, "i", 24)),
+    }
+}
+
+const VALUES: [(Assigned, Row); 19] = [
+    (Assigned::Literal(255), None),
+    (Assigned::Literal(256), Some((28, TypeKind::LiteralRange))),
+    (Assigned::Zeros(65), Some((28, TypeKind::WidthRange))),
+    (Assigned::Zeros(0), Some((28, TypeKind::WidthRange))),
+    (Assigned::Name("q"), Some((20, TypeKind::UnknownName))),
+    (Assigned::Name("i"), Some((12, TypeKind::TypeDiffers))),
+    (Assigned::NotVector, Some((19, TypeKind::TypeDiffers))),
+    (Assigned::SumWithBool, Some((22, TypeKind::TypeDiffers))),
+    (Assigned::ChoiceOfUnknown, Some((24, TypeKind::UnknownName))),
+    (Assigned::ChoiceByVector, Some((22, TypeKind::TypeDiffers))),
+    (
+        Assigned::Selection(7, None),
+        Some((12, TypeKind::TypeDiffers)),
+    ),
+    (
+        Assigned::Selection(8, None),
+        Some((21, TypeKind::SliceRange)),
+    ),
+    (
+        Assigned::Selection(7, Some(8)),
+        Some((21, TypeKind::SliceRange)),
+    ),
+    (
+        Assigned::Selection(8, Some(7)),
+        Some((21, TypeKind::SliceRange)),
+    ),
+    (Assigned::Selection(7, Some(0)), None),
+    (Assigned::SelectionOfBool, Some((21, TypeKind::TypeDiffers))),
+    (Assigned::Joined(56), Some((12, TypeKind::TypeDiffers))),
+    (Assigned::Joined(57), Some((22, TypeKind::WidthRange))),
+    (Assigned::JoinedWithBool, Some((22, TypeKind::TypeDiffers))),
+];
+
+#[test]
+fn values(rt: HostRuntime) -> Result<(), Fail> {
+    for (e, row) in VALUES {
+        let s = assign(rt.alloc(), "m", value_of(rt.alloc(), e));
+        assert_eq!(rt; says(rt.alloc(), "A", s)?, row);
+    }
     Ok(())
 }
 
-#[test]
-fn selections(rt: HostRuntime) -> Result<(), Fail> {
-    let a = rt.alloc();
-    let bits = [
-        (7, None),
-        (8, None),
-        (7, Some(8)),
-        (8, Some(7)),
-        (7, Some(0)),
-    ];
-    let rows = [
-        Some((12, TypeKind::TypeDiffers)),
-        Some((21, TypeKind::SliceRange)),
-        Some((21, TypeKind::SliceRange)),
-        Some((21, TypeKind::SliceRange)),
-        None,
-    ];
-    for ((high, low), row) in bits.into_iter().zip(rows) {
-        let selected = select(a, 21, variable(a, "n", 20), high, low);
-        assert_eq!(rt; values(a, selected)?, row);
-    }
-    let selected = select(a, 21, variable(a, "i", 20), 0, None);
-    assert_eq!(rt; values(a, selected)?, Some((21, TypeKind::TypeDiffers)));
-    let long = |at: u32| -> Value {
-        Ok(FileExpr::Lit {
-            width: 57,
-            value: 0,
-            at,
-        })
-    };
-    let too_wide = joined(a, 22, variable(a, "n", 20), long(24));
-    assert_eq!(rt; values(a, too_wide)?, Some((22, TypeKind::WidthRange)));
-    let with_bool = joined(a, 22, variable(a, "n", 20), variable(a, "i", 24));
-    assert_eq!(rt; values(a, with_bool)?, Some((22, TypeKind::TypeDiffers)));
-    Ok(())
+/// A statement of the module.
+#[derive(Clone, Copy)]
+enum Body {
+    Nothing,
+    Emit(&'static str),
+    AssignInput,
+    WhileVector,
+    LaterIsFirst,
+    Local(&'static str),
+    SideBySide,
+    OutOfScope,
+    Labels(&'static str),
+    WideIsUsed,
+    Call(&'static str),
+    FewArguments,
+    Parentheses,
+    Output(&'static str),
+    LiteralOutput,
 }
+
+/// A call of `B` with these outputs.
+fn calls(alloc: Global, callee: &str, o: Value, m: Value) -> Made {
+    let i = variable(alloc, "i", 20);
+    call(alloc, callee, i, o, variable(alloc, "n", 40), m)
+}
+
+/// A block with the local `y` and two statements.
+fn with_y(alloc: Global, at: u32, first: Made, second: Made) -> Made {
+    inner(alloc, local(alloc, TypeText::Bool, "y", at), first, second)
+}
+
+fn few(alloc: Global) -> Made {
+    Ok(FileStmt::Call {
+        callee: name(alloc, "B", 10)?,
+        args: add(Ok(Items::new(alloc)), variable(alloc, "n", 20))?,
+    })
+}
+
+fn statement(alloc: Global, body: Body) -> Made {
+    let o = |at: u32| variable(alloc, "o", at);
+    let m = || variable(alloc, "m", 50);
+    let nothing = || -> Made { Ok(FileStmt::Nothing) };
+    match body {
+        Body::Nothing => nothing(),
+        Body::Emit(text) => emit(alloc, text, 10),
+        Body::AssignInput => assign(alloc, "i", o(20)),
+        Body::WhileVector => whiles(alloc, variable(alloc, "n", 20)),
+        Body::LaterIsFirst => with_y(alloc, 40, emit(alloc, "q", 30), emit(alloc, "q", 20)),
+        Body::Local(text) => {
+            inner(
+                alloc,
+                local(alloc, TypeText::Bool, text, 40),
+                nothing(),
+                nothing(),
+            )
+        }
+        Body::SideBySide => {
+            let inside = with_y(alloc, 50, emit(alloc, "y", 51), nothing());
+            let beside = with_y(alloc, 60, emit(alloc, "y", 61), nothing());
+            inner(alloc, local(alloc, TypeText::Bool, "z", 40), inside, beside)
+        }
+        Body::OutOfScope => {
+            let inside = with_y(alloc, 50, nothing(), nothing());
+            let decl = local(alloc, TypeText::Bool, "z", 40);
+            inner(alloc, decl, inside, emit(alloc, "y", 60))
+        }
+        Body::Labels(text) => with_y(
+            alloc,
+            40,
+            labelled(alloc, "l", 50),
+            labelled(alloc, text, 60),
+        ),
+        Body::WideIsUsed => {
+            let decl = local(alloc, TypeText::Bv { width: 65, at: 39 }, "y", 40);
+            inner(alloc, decl, assign(alloc, "y", o(20)), nothing())
+        }
+        Body::Call(callee) => calls(alloc, callee, o(30), m()),
+        Body::FewArguments => few(alloc),
+        Body::Parentheses => calls(alloc, "B", paren(alloc, 29, o(30)), m()),
+        Body::Output(text) => calls(alloc, "B", variable(alloc, text, 30), m()),
+        Body::LiteralOutput => calls(alloc, "B", o(30), byte(1, 50)),
+    }
+}
+
+const STATEMENTS: [(&str, Body, Row); 23] = [
+    ("A", Body::Nothing, None),
+    ("B", Body::Nothing, Some((1, TypeKind::DoubleName))),
+    ("A", Body::Emit("o"), None),
+    ("A", Body::Emit("i"), Some((10, TypeKind::WriteToInput))),
+    ("A", Body::Emit("m"), Some((10, TypeKind::TypeDiffers))),
+    // Two kinds at one offset.
+    ("A", Body::Emit("n"), Some((10, TypeKind::TypeDiffers))),
+    ("A", Body::Emit("q"), Some((10, TypeKind::UnknownName))),
+    ("A", Body::AssignInput, Some((10, TypeKind::WriteToInput))),
+    ("A", Body::WhileVector, Some((10, TypeKind::TypeDiffers))),
+    ("A", Body::LaterIsFirst, Some((20, TypeKind::UnknownName))),
+    ("A", Body::Local("o"), Some((40, TypeKind::DoubleName))),
+    ("A", Body::Local("x"), Some((40, TypeKind::DoubleName))),
+    ("A", Body::SideBySide, None),
+    ("A", Body::OutOfScope, Some((60, TypeKind::UnknownName))),
+    ("A", Body::Labels("l"), Some((60, TypeKind::DoubleName))),
+    ("A", Body::Labels("x"), None),
+    // Nothing follows from a width out of range.
+    ("A", Body::WideIsUsed, Some((39, TypeKind::WidthRange))),
+    ("A", Body::Call("B"), None),
+    ("A", Body::Call("C"), Some((10, TypeKind::UnknownName))),
+    ("A", Body::FewArguments, Some((10, TypeKind::ArgCount))),
+    ("A", Body::Parentheses, Some((29, TypeKind::NotWritable))),
+    ("A", Body::Output("x"), Some((30, TypeKind::ArgClass))),
+    ("A", Body::LiteralOutput, Some((50, TypeKind::NotWritable))),
+];
 
 #[test]
 fn statements(rt: HostRuntime) -> Result<(), Fail> {
-    let a = rt.alloc();
-    assert_eq!(rt; says(a, emit(a, "o", 10))?, None);
-    assert_eq!(rt;
-        says(a, emit(a, "i", 29))?,
-        Some((29, TypeKind::WriteToInput))
-    );
-    assert_eq!(rt;
-        says(a, emit(a, "m", 10))?,
-        Some((10, TypeKind::TypeDiffers))
-    );
-    // Two kinds at one offset.
-    assert_eq!(rt;
-        says(a, emit(a, "n", 10))?,
-        Some((10, TypeKind::TypeDiffers))
-    );
-    assert_eq!(rt;
-        says(a, emit(a, "q", 10))?,
-        Some((10, TypeKind::UnknownName))
-    );
-    assert_eq!(rt;
-        says(a, assign(a, "m", variable(a, "i", 20)))?,
-        Some((12, TypeKind::TypeDiffers))
-    );
-    assert_eq!(rt;
-        says(a, assign(a, "i", variable(a, "o", 20)))?,
-        Some((10, TypeKind::WriteToInput))
-    );
-    assert_eq!(rt;
-        says(a, whiles(a, variable(a, "n", 20)))?,
-        Some((10, TypeKind::TypeDiffers))
-    );
-    // The later one in the tree has the lesser offset.
-    assert_eq!(rt;
-        both(a, emit(a, "q", 30), emit(a, "q", 20))?,
-        Some((20, TypeKind::UnknownName))
-    );
+    for (module, body, row) in STATEMENTS {
+        assert_eq!(rt; says(rt.alloc(), module, statement(rt.alloc(), body))?, row);
+    }
     Ok(())
 }
 
-#[test]
-fn names(rt: HostRuntime) -> Result<(), Fail> {
-    let a = rt.alloc();
-    let bool_local = |text: &str, at: u32| local(a, TypeText::Bool, text, at);
-    let nothing = || -> Made { Ok(FileStmt::Nothing) };
-    assert_eq!(rt;
-        says(a, inner(a, bool_local("o", 40), nothing(), nothing()))?,
-        Some((40, TypeKind::DoubleName))
-    );
-    assert_eq!(rt;
-        says(a, inner(a, bool_local("x", 40), nothing(), nothing()))?,
-        Some((40, TypeKind::DoubleName))
-    );
-    let left = inner(a, bool_local("y", 40), emit(a, "y", 41), nothing());
-    let right = inner(a, bool_local("y", 50), emit(a, "y", 51), nothing());
-    assert_eq!(rt; both(a, left, right)?, None);
-    let left = inner(a, bool_local("y", 40), nothing(), nothing());
-    assert_eq!(rt;
-        both(a, left, emit(a, "y", 50))?,
-        Some((50, TypeKind::UnknownName))
-    );
-    assert_eq!(rt;
-        both(a, labelled(a, "l", 10), labelled(a, "l", 20))?,
-        Some((20, TypeKind::DoubleName))
-    );
-    assert_eq!(rt; says(a, labelled(a, "x", 10))?, None);
-    // A width out of range, and then a use of the name, of which nothing is said.
-    let wide = local(a, TypeText::Bv { width: 65, at: 30 }, "y", 40);
-    let used = inner(a, wide, assign(a, "y", variable(a, "i", 20)), nothing());
-    assert_eq!(rt; says(a, used)?, Some((30, TypeKind::WidthRange)));
-    let body = block(a, bool_local("x", 5), nothing(), nothing());
-    let f = file(a, "B", formals(a), body)?;
-    assert_eq!(rt;
-        row_of(first_fault(a, &f)?),
-        Some((1, TypeKind::DoubleName))
-    );
-    Ok(())
-}
-
-/// A call with these arguments at 20, 30, 40 and 50.
-fn calls(alloc: Global, b: Value, d: Value) -> Result<Row, AllocError> {
-    let i = variable(alloc, "i", 20);
-    says(alloc, call(alloc, "B", i, b, variable(alloc, "n", 40), d))
-}
-
-#[test]
-fn arguments(rt: HostRuntime) -> Result<(), Fail> {
-    let a = rt.alloc();
-    let o = || variable(a, "o", 30);
-    let m = || variable(a, "m", 50);
-    assert_eq!(rt; calls(a, o(), m())?, None);
-    assert_eq!(rt;
-        calls(a, paren(a, 29, o()), m())?,
-        Some((29, TypeKind::NotWritable))
-    );
-    assert_eq!(rt;
-        calls(a, variable(a, "i", 30), m())?,
-        Some((30, TypeKind::NotWritable))
-    );
-    assert_eq!(rt;
-        calls(a, variable(a, "x", 30), m())?,
-        Some((30, TypeKind::ArgClass))
-    );
-    assert_eq!(rt; calls(a, o(), o())?, Some((30, TypeKind::TypeDiffers)));
-    assert_eq!(rt;
-        calls(a, o(), byte(1, 50))?,
-        Some((50, TypeKind::NotWritable))
-    );
-    let unknown = call(a, "C", o(), o(), o(), o());
-    assert_eq!(rt; says(a, unknown)?, Some((10, TypeKind::UnknownName)));
-    let few = FileStmt::Call {
-        callee: name(a, "B", 10)?,
-        args: add(Ok(Items::new(a)), variable(a, "n", 20))?,
-    };
-    assert_eq!(rt; says(a, Ok(few))?, Some((10, TypeKind::ArgCount)));
-    Ok(())
-}
-
-/// Formals with the names `v`, `vv` and so on up to a letter, each followed by others.
+/// That many formals.
 fn many(alloc: Global, count: u32) -> Result<Items<FileFormal>, AllocError> {
-    let letters = [
-        "a", "b", "c", "d", "e", "f", "g", "h", "i", "j", "k", "l", "m", "n", "o", "p", "q",
-    ];
     let mut formals = Items::new(alloc);
-    let mut at = 0;
-    for first in letters {
-        for second in letters {
-            if at < count {
-                let mut text = String::from_str(alloc, first)?;
-                text.push_str(second)?;
-                text.push_str("0")?;
-                formals.push(formal(alloc, Dir::In, TypeText::Bool, text.as_str(), at)?)?;
-                at += 1;
-            }
-        }
+    for at in 0..count {
+        let text = format!(in alloc; "f{at}")?;
+        formals.push(formal(alloc, Dir::In, TypeText::Bool, text.as_str(), at)?)?;
     }
     Ok(formals)
 }
 
+/// What is said first of a module with that many formals.
+fn said_of_many(alloc: Global, count: u32) -> Result<Row, AllocError> {
+    let decl = local(alloc, TypeText::Bool, "x", 5);
+    let body = block(alloc, decl, Ok(FileStmt::Nothing), Ok(FileStmt::Nothing));
+    let f = file(alloc, "A", many(alloc, count), body)?;
+    Ok(row_of(first_fault(alloc, &f)?))
+}
+
 #[test]
 fn counts_of_formals(rt: HostRuntime) -> Result<(), Fail> {
-    let a = rt.alloc();
     for (count, row) in [(256, None), (257, Some((256, TypeKind::TooMany)))] {
-        let decl = local(a, TypeText::Bool, "x", 5);
-        let body = block(a, decl, Ok(FileStmt::Nothing), Ok(FileStmt::Nothing));
-        let f = file(a, "A", many(a, count), body)?;
-        assert_eq!(rt; row_of(first_fault(a, &f)?), row);
+        assert_eq!(rt; said_of_many(rt.alloc(), count)?, row);
     }
     Ok(())
 }
