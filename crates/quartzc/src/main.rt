@@ -5,9 +5,8 @@ mod program;
 #[cfg(test)]
 mod tests;
 
-use crate::program::run;
-use std::process::ExitCode;
+use crate::program::{Ended, run};
 
-fn main(rt: HostRuntime) -> ExitCode {
+fn main(rt: HostRuntime) -> Ended {
     run(&rt, rt, rt)
 }

@@ -1,19 +1,37 @@
 //! What the program does with the words, the files and the standard output that it is given.
 
+ghost use Rattle.std.specs.Prelude.{◌≡◌};
+ghost use Rattle.std.specs.Process.{exit_status};
+ghost use Rattle.qz_driver.specs.Status.{code_of};
+
 use qz_driver::{Status, quartzc};
 use qz_io::{HostFiles, HostSink};
 use std::env;
 use std::io::{self, ErrorKind};
-use std::process::ExitCode;
+use std::process::{ExitCode, Termination};
 use std::rt::{Env, Files};
 
-/// Makes the call of these words over these files and this output, and gives its exit code. Where
+/// How the program ends. Only `run` gives one, so a `main` that answers it has made its call.
+#[derive(Drop)]
+pub struct Ended {
+    status: Status,
+}
+
+impl Termination for Ended {
+    fn report<R: Eprint>(self, _rt: &R) -> ExitCode
+        ensures { exit_status result ≡ code_of self.status }
+    {
+        ExitCode::from(self.status.code())
+    }
+}
+
+/// Makes the call of these words over these files and this output, and tells how it ended. Where
 /// keeping the words finds no memory, the call isn't made.
 pub fn run<E: Env + AllocGlobal, F: Files + Drop, O: Print + Drop>(
     words: &E,
     files: F,
     output: O,
-) -> ExitCode {
+) -> Ended {
     let status = match words_of(words) {
         Ok(given) => {
             let mut files = HostFiles::new(files);
@@ -22,7 +40,7 @@ pub fn run<E: Env + AllocGlobal, F: Files + Drop, O: Print + Drop>(
         }
         Err(_) => Status::NoMemory,
     };
-    ExitCode::from(status.code())
+    Ended { status }
 }
 
 /// The words after the program's name. Where one of them isn't UTF-8, a lone `-` stands for them all,

@@ -6,7 +6,7 @@ use std::env::FillError;
 use std::fmt::Display;
 use std::fs::OpenOptions;
 use std::io::Write;
-use std::process::{Abort, ExitCode};
+use std::process::{Abort, ExitCode, Termination};
 use std::rt::Env;
 use std::test::Fail;
 use std::{fs, io};
@@ -129,7 +129,7 @@ fn ends_prints_and_puts(rt: HostRuntime) -> Result<(), Fail> {
     for (words, code, line) in &ROWS {
         fs::write(&rt, PRINTED, b"".as_slice())?;
         let ended = run(&Words { rt, words }, rt, Kept { rt });
-        assert_eq!(rt; ended, ExitCode::from(*code));
+        assert_eq!(rt; ended.report(&rt), ExitCode::from(*code));
         let printed = fs::read(&rt, PRINTED)?;
         assert!(rt; printed.as_slice() == *line);
     }
