@@ -1,7 +1,10 @@
+pub mod CoreDeclarationLemmas
 pub mod DeclarationLemmas
 pub mod ExpressionLemmas
 pub mod FaultLemmas
 pub mod FirstLemmas
 pub mod LabelLemmas
+pub mod MadeLemmas
+pub mod MakingLemmas
 pub mod MeaningLemmas
 pub mod StatementLemmas

@@ -1,9 +1,17 @@
 pub mod ArgumentFaults
+pub mod CoreDeclarations
+pub mod CoreExpressions
+pub mod CoreModules
+pub mod CoreStatements
 pub mod Declarations
+pub mod DeclaredLocals
 pub mod ExpressionTypes
 pub mod Faults
 pub mod FileFaults
+pub mod Levels
+pub mod Makers
 pub mod Meanings
+pub mod Refusals
 pub mod Scopes
 pub mod StatementFaults
 pub mod WrittenTypes

@@ -246,7 +246,7 @@ fn called(
 }
 
 /// The formals of the prototype of a name.
-fn formals_of<'f>(callees: &Callees<'f>, callee: &NameAt) -> Option<&'f [FileFormal]>
+pub(crate) fn formals_of<'f>(callees: &Callees<'f>, callee: &NameAt) -> Option<&'f [FileFormal]>
     ensures { option_map (λ formals. formals.now) result
         ≡ formals_of callees.now.protos.now (meanings_of callees.now.numbers) callee.now.name }
 {
