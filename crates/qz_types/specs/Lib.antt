@@ -11,6 +11,7 @@ pub mod FileFaults
 pub mod Levels
 pub mod Makers
 pub mod Meanings
+pub mod Orderly
 pub mod Refusals
 pub mod Scopes
 pub mod StatementFaults

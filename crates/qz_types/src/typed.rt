@@ -1,10 +1,13 @@
 //! A file after typing, or its first fault.
 
-ghost use Rattle.std.specs.Prelude.{◌≡◌, [], IfOk, IfErr, OnOk};
+ghost use Rattle.std.specs.Prelude.{◌≡◌, ◌≤◌, [], IfOk, IfErr, OnOk};
+ghost use Rattle.qz_syntax.specs.Numbers.{depth_of};
 ghost use Rattle.qz_types.specs.declared.typed.TypeRefusal.TheVariants.{Memory};
 ghost use Rattle.qz_types.specs.CoreModules.{core_of, core_body, module_with, root_names};
 ghost use Rattle.qz_types.specs.CoreStatements.{made};
 ghost use Rattle.qz_types.specs.FileFaults.{faults_of, body_of, callees_of};
+ghost use Rattle.qz_types.specs.Levels.{IsBounded};
+ghost use Rattle.qz_types.specs.Orderly.{IsOrderly};
 ghost use Rattle.qz_types.specs.Refusals.{IsRefused};
 ghost use Rattle.qz_types.specs.Scopes.{meanings_of};
 
@@ -46,6 +49,8 @@ pub fn check(alloc: Global, f: &File) -> Result<Typed, TypeRefusal>
     ensures typed { IfOk result (λ typed. typed ≡ core_of f.now) }
     ensures accepted { OnOk result (faults_of f.now ≡ []) }
     ensures refused { IfErr result (λ refusal. IsRefused f.now refusal) }
+    ensures orderly { IfOk result (λ typed. IsOrderly typed) }
+    ensures depth { IfOk result (λ typed. IsBounded f.now → depth_of typed.«module».body ≤ 600) }
 {
     match first_fault(alloc, f)? {
         Some(fault) => Err(TypeRefusal::At {
