@@ -1,0 +1,5 @@
+pub mod Counting
+pub mod Cutting
+pub mod Placing
+pub mod Seen
+pub mod Writing

@@ -1,0 +1,5 @@
+use Rattle.std.proofs.Common.{length}
+use Rattle.qz_react.proofs.bindings.+unbind.Given as goal
+
+abbrev pub decreases-unbind : goal.decreases-unbind
+decreases-unbind l = length l.bindings.now

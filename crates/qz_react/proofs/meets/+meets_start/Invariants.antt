@@ -1,0 +1,12 @@
+use Rattle.std.proofs.Common.{◌≡◌, ◌++◌, map, drop, Some, flat_map}
+use Rattle.qz_syntax.specs.declared.places.Residual.{Residual}
+use Rattle.qz_meaning.specs.Layouts.{Layout}
+use Rattle.qz_meaning.specs.Parallels.{parallel_layout, resting}
+use Rattle.qz_meaning.specs.Residing.{whole_layout}
+use Rattle.qz_react.specs.Seeing.{named, met_by}
+use Rattle.qz_react.proofs.meets.+meets_start.Given as goal
+
+abbrev pub invariant-meet_parts-loop-part : goal.invariant-meet_parts-loop-part
+invariant-meet_parts-loop-part l =
+    map (met_by (named l.table)) l.out.items ++ map Some (flat_map (λ (part : Layout). part.met_on_start l.m) (map whole_layout (drop l.part-index l.parts)))
+    ≡ map (met_by (named l.table)) l.initial.out.items ++ map Some (flat_map (λ (part : Layout). part.met_on_start l.m) (map whole_layout l.parts))
