@@ -1,5 +1,5 @@
 -- What the lists tell of a program is what its walker sees.
-use Rattle.std.proofs.Common.{◌≡◌, ◌++◌, List, map, Some, sym, ap, subst, ◌∙◌}
+use Rattle.std.proofs.Common.{◌≡◌, ◌++◌, List, map, Some, refl, sym, ap, subst, ◌∙◌}
 use Rattle.std.specs.Prelude.{slice_get}
 use Rattle.qz_values.specs.declared.Know.{Know}
 use Rattle.qz_syntax.specs.declared.modules.Module.{Module}
@@ -14,6 +14,7 @@ use Rattle.qz_react.specs.declared.environments.Env.{Env}
 use Rattle.qz_react.specs.declared.environments.Met.{Met}
 use Rattle.qz_react.specs.declared.environments.Write.{Write}
 use Rattle.qz_react.specs.declared.walker.Walker.{Walker}
+use Rattle.qz_react.specs.Landing.{Passes}
 use Rattle.qz_react.specs.Seeing.{Sees, named, written, met_by}
 use Rattle.qz_react.specs.Reacting.{IsWalkerOf, Tells, Reacts, ends_at}
 
@@ -45,3 +46,7 @@ pub meets : (m : Module) (walker : Walker) (base now : List Met) (passed : List 
     → map (met_by (instances_of m)) now ≡ map (met_by (instances_of m)) base ++ map Some passed
 meets m walker base now passed is h =
     subst (λ (instances : List Instance). map (met_by instances) now ≡ map (met_by instances) base ++ map Some passed) is.instances h
+
+pub passes : (m : Module) (walker : Walker) (env : Env) (e : Environment) → IsWalkerOf m walker → Tells (program_of m) env e
+    → Passes m walker.table env (passing (program_of m) e)
+passes m walker env e is tells = record { sees = sees m walker env e is tells; class_of = λ x. refl; type_of = λ x. refl }

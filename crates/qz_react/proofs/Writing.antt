@@ -38,7 +38,7 @@ map_joined f (x ∷ xs) ys = ap (λ zs. f x ∷ zs) (map_joined f xs ys)
 pub joined : {A B : Type 0} (f : A → B) (base : List B) (xs ys : List A) → (base ++ map f xs) ++ map f ys ≡ base ++ map f (xs ++ ys)
 joined f base xs ys = append_assoc base (map f xs) (map f ys) ∙ ap (λ zs. base ++ zs) (sym (map_joined f xs ys))
 
-walk_bound : (step : Passing) (s body : Stmt) (bindings : List Binding) → s ≡ Bind bindings body
+pub walk_bound : (step : Passing) (s body : Stmt) (bindings : List Binding) → s ≡ Bind bindings body
     → walk step s ≡ bound_body step.now bindings (walk step body)
 walk_bound step s body bindings is = ap (walk step) is ∙ behavior-Bind step.now (residing step) (no_calls (residing step)) bindings body
 

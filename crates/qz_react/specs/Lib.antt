@@ -1,3 +1,4 @@
 pub mod Contexts
+pub mod Landing
 pub mod Reacting
 pub mod Seeing

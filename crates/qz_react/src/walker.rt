@@ -5,12 +5,15 @@ ghost use Rattle.qz_syntax.specs.declared.modules.Module.{Module};
 ghost use Rattle.qz_meaning.specs.Scenes.{Passing, root};
 ghost use Rattle.qz_meaning.specs.Residing.{walk, whole_layout};
 ghost use Rattle.qz_meaning.specs.Programs.{program_of, instances_of};
-ghost use Rattle.qz_meaning.specs.Settling.{Environment, writes_at, met_at};
+ghost use Rattle.qz_meaning.specs.Settling.{Environment, body_under, writes_at, met_at};
 ghost use Rattle.qz_meaning.specs.Configurations.{layout_of};
+ghost use Rattle.qz_meaning.specs.MacroSteps.{rest_or_end, next_place as place_after};
+ghost use Rattle.qz_react.specs.Landing.{Passes};
 ghost use Rattle.qz_react.specs.Contexts.{context_of};
 ghost use Rattle.qz_react.specs.Seeing.{Sees, named, written, met_by, instance_of};
 ghost use Rattle.qz_react.specs.Reacting.{IsWalkerOf, Tells, Reacts, ends_at};
 
+use crate::afters::after;
 use crate::environments::{Env, Met, Write};
 use crate::expressions::View;
 use crate::here::Here;
@@ -18,9 +21,11 @@ use crate::instances::{Instance, Instances};
 use crate::meets::{meet_resume, meet_start};
 use crate::numbering::{all_instances, carriers_of, depths_of, firsts_of, inputs_of};
 use crate::operators::yes;
+use crate::residing::{Land, Way};
+use crate::rests::rest;
 use crate::resumes::resume;
 use crate::starts::start;
-use qz_syntax::{Mark, Module, Place, Stmt, Whole};
+use qz_syntax::{Mark, Module, Place, Residual, Stmt, Whole};
 use qz_values::Know;
 use std::alloc::{AllocError, Global};
 
@@ -111,6 +116,69 @@ pub fn react(
         walker.here.reset();
     }
     answer
+}
+
+/// Where control is after a step from a place.
+fn land_from(land: &Land, here: &mut Here, body: &Stmt, place: &Place) -> Result<Place, AllocError>
+    requires { context_of here.old ≡ root }
+    ensures here { OnOk result (context_of here.new ≡ root) }
+    ensures next { IfOk result (λ next. (step : Passing) → Passes land.now.module.now land.now.view.table.now land.now.view.env.now step
+        → next ≡ place_after (walk step body.now) place.now) }
+{
+    match place {
+        Place::NotStarted => {
+            let one = rest(land, here, body, Mark::Zero)?;
+            Ok(rest_or_end(one.place))
+        }
+        Place::Rest(r) => {
+            let one = after(land, here, body, r, Way::Goes)?;
+            Ok(rest_or_end(one.place))
+        }
+        Place::Ended => Ok(Place::Ended),
+    }
+}
+
+/// A place where control rests, or the end where there is none.
+fn rest_or_end(inside: Option<Residual>) -> Place
+    ensures { result ≡ rest_or_end inside }
+{
+    match inside {
+        Some(r) => Place::Rest(r),
+        None => Place::Ended,
+    }
+}
+
+/// Where control is after a step from a place, with the stores that the step leaves.
+///
+/// # Errors
+///
+/// Want of memory. A tree that is no whole program, or lists that don't fit it, may be answered so
+/// too.
+pub fn next_place<'a>(
+    alloc: Global,
+    w: &'a Whole,
+    walker: &mut Walker,
+    place: &Place,
+    env: &'a Env,
+) -> Result<Place, AllocError>
+    requires { IsWalkerOf w.now.module walker.old }
+    ensures walker { IsWalkerOf w.now.module walker.new }
+    ensures next { IfOk result (λ next. (e : Environment) → Tells (program_of w.now.module) env.entry.now e
+        → next ≡ place_after (body_under (program_of w.now.module) e) place.now) }
+{
+    let land = Land {
+        alloc,
+        module: &w.module,
+        view: View {
+            table: &walker.table,
+            env,
+        },
+    };
+    let next = land_from(&land, &mut walker.here, &w.module.body, place);
+    if next.is_err() {
+        walker.here.reset();
+    }
+    next
 }
 
 /// Adds the instances that the walk of a step from a place comes past, without the outputs, which
