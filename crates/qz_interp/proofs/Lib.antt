@@ -1,0 +1,5 @@
+pub mod LoopsRound
+pub mod Distinct
+pub mod TallyLemmas
+pub mod SettlingLemmas
+pub mod RoundLemmas

@@ -1,0 +1,5 @@
+pub mod Numbering
+pub mod Seeing
+pub mod Tallying
+pub mod Slots
+pub mod RoundTables

@@ -1,0 +1,17 @@
+//! The interpreter: macro steps of a whole program, by rounds from no knowledge up.
+//!
+//! Today it has what a round does beside the walk: verdicts on writers, a table of them by the numbers of
+//! instances, and what instances settle to.
+#![tactic(auto)]
+
+pub mod laws;
+mod settling;
+mod slots;
+mod tallies;
+#[cfg(test)]
+mod tests;
+mod verdicts;
+
+pub use slots::{Entry, Slot, settle_delayed, settle_values};
+pub use tallies::Tally;
+pub use verdicts::Verdict;
