@@ -3,3 +3,5 @@ pub mod Distinct
 pub mod TallyLemmas
 pub mod SettlingLemmas
 pub mod RoundLemmas
+pub mod DoubtLemmas
+pub mod LastLemmas

@@ -96,7 +96,7 @@ module _ (m : Module) (numbered : IsNumbered m) (c : Configuration) (row : List 
   p = program_of m
 
   -- no instance that has a number is an input
-  free : (k : ℕ) (i : Instance) → slice_get p.instances k ≡ Some i → given p row i ≡ None
+  pub free : (k : ℕ) (i : Instance) → slice_get p.instances k ≡ Some i → given p row i ≡ None
   free k i h = by_variable i.variable i.mark h where
     by_variable : (x : Var) (mk : Mark) → slice_get p.instances k ≡ Some (record { variable = x; mark = mk }) → given p row record { variable = x; mark = mk } ≡ None
     by_variable (var.Formal n) mk e =

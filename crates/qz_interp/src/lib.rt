@@ -4,6 +4,7 @@
 //! instances, and what instances settle to.
 #![tactic(auto)]
 
+mod doubts;
 pub mod laws;
 mod settling;
 mod slots;
@@ -12,6 +13,7 @@ mod tallies;
 mod tests;
 mod verdicts;
 
+pub use doubts::{Doubted, first_doubted};
 pub use slots::{Entry, Slot, settle_delayed, settle_values};
 pub use tallies::Tally;
 pub use verdicts::Verdict;
