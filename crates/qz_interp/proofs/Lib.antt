@@ -5,3 +5,4 @@ pub mod SettlingLemmas
 pub mod RoundLemmas
 pub mod DoubtLemmas
 pub mod LastLemmas
+pub mod WalkedLemmas

@@ -6,3 +6,4 @@ pub mod RoundTables
 pub mod Doubts
 pub mod FirstDoubts
 pub mod LastRounds
+pub mod Walked
