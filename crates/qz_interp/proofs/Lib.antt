@@ -6,3 +6,4 @@ pub mod RoundLemmas
 pub mod DoubtLemmas
 pub mod LastLemmas
 pub mod WalkedLemmas
+pub mod RunLemmas

@@ -46,3 +46,9 @@ UndoubtedIsDefinite = (m : Module) → IsNumbered m → (c : Configuration) (row
 abbrev pub DoubtedIsNotDefinite : Type 0
 DoubtedIsNotDefinite = (p : Program) (c : Configuration) (row : List Value) (n : ℕ) (d : Doubted)
     → IsLast p c row n → IsFirstDoubt p c (round p c row n) d → IsDefinite p c row → ⊥
+
+-- lists in which round n stands, for some n after which nothing changes
+pub record AreLastRound (p : Program) (c : Configuration) (row : List Value) (known : List Know) (delayed : List Later) : Type 0 where
+  pub number : ℕ
+  pub last : IsLast p c row number
+  pub lists : AreLists p (round p c row number) known delayed

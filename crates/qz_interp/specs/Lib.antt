@@ -7,3 +7,4 @@ pub mod Doubts
 pub mod FirstDoubts
 pub mod LastRounds
 pub mod Walked
+pub mod Beginning

@@ -15,7 +15,7 @@ mod tests;
 mod verdicts;
 
 pub use doubts::{Doubted, first_doubted};
-pub use rounds::{Sheet, settle_round};
+pub use rounds::{Sheet, run_rounds, settle_round};
 pub use slots::{Entry, Slot, settle_delayed, settle_values};
 pub use tallies::Tally;
 pub use verdicts::Verdict;
