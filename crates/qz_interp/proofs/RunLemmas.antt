@@ -1,13 +1,15 @@
 -- Rounds from round 0 to the last one.
-use Rattle.std.proofs.Common.{◌≡◌, ℕ, zero, suc, ◌+◌, ◌*◌, ◌≤◌, Bool, true, false, List, [], ◌∷◌, length, Some, sym, ap, subst, ◌∙◌, arith}
-use Rattle.std.specs.Prelude.{◌==◌, if◌then◌else◌, slice_get}
+use Rattle.std.proofs.Common.{◌≡◌, ℕ, zero, suc, ◌+◌, ◌*◌, ◌≤◌, Bool, true, false, List, [], ◌∷◌, length, Option, Some, None, refl, sym, ap, subst, ◌∙◌, arith}
+use Rattle.std.specs.Prelude.{◌==◌, if◌then◌else◌, slice_get, MatchOption}
 use Rattle.std.proofs.lemmas.Bool.{false≢true}
 use Rattle.qz_values.specs.declared.Value.{Value}
+use Rattle.qz_values.specs.declared.Know.{Know}
 use Rattle.qz_values.specs.declared.Know.TheVariants.{Known}
+use Rattle.qz_syntax.specs.declared.places.Later.{Later}
 use Rattle.qz_syntax.specs.declared.modules.Module.{Module}
 use Rattle.qz_meaning.specs.Instances.{formal_instance}
 use Rattle.qz_meaning.specs.Programs.{Program, program_of, times}
-use Rattle.qz_meaning.specs.Configurations.{Configuration}
+use Rattle.qz_meaning.specs.Configurations.{Configuration, IsValuationOf}
 use Rattle.qz_meaning.specs.Settling.{Environment, input_of, step_met, step_writes, met_as}
 use Rattle.qz_meaning.specs.Rounds.{round, given_or_unknown, now_or_unknown}
 use Rattle.qz_meaning.proofs.Lists.{none≢some, some_same}
@@ -19,8 +21,12 @@ use Rattle.qz_syntax.specs.WellFormed.{IsNumbered}
 use Rattle.qz_syntax.specs.declared.places.Place.{Place}
 use Rattle.qz_interp.specs.declared.slots.Slot.{Slot}
 use Rattle.qz_interp.specs.Beginning.{BeginsRounds}
-use Rattle.qz_interp.specs.FirstDoubts.{AreLists}
-use Rattle.qz_interp.specs.LastRounds.{AreLastRound}
+use Rattle.qz_interp.specs.declared.doubts.Doubted.{Doubted}
+use Rattle.qz_interp.specs.Doubts.{doubted_from}
+use Rattle.qz_interp.specs.FirstDoubts.{AreLists, NoDoubt, IsFirstDoubt}
+use Rattle.qz_interp.specs.LastRounds.{AreLastRound, Decides}
+use Rattle.qz_interp.proofs.DoubtLemmas.{lists_tell_doubts}
+use Rattle.qz_interp.proofs.LastLemmas.{undoubted_is_definite}
 
 times_there : (inputs : List ℕ) (k n : ℕ) → slice_get inputs k ≡ Some n → 1 ≤ times n inputs
 times_there [] k n h = absurd (none≢some n h)
@@ -78,3 +84,19 @@ pub tells_from : (m : Module) (c : Configuration) (row : List Value) (at : Place
     → Tells (program_of m) env (round (program_of m) c row n)
 tells_from m c row at slots first env n begins same lists =
     tells_round m begins.numbered c row n env (same ∙ begins.inputs) lists
+
+-- the last round decides whether the configuration is definite
+pub decides : (m : Module) (c : Configuration) (row : List Value) (at : Place) (slots : List Slot) (first : Env) (known : List Know) (delayed : List Later)
+    → BeginsRounds m c row at slots first → IsValuationOf (program_of m) c row → AreLastRound (program_of m) c row known delayed
+    → Decides (program_of m) c row (doubted_from 0 slots known delayed)
+decides m c row at slots first known delayed begins valuation last =
+    by_answer (doubted_from 0 slots known delayed) (lists_tell_doubts (program_of m) c (round (program_of m) c row last.number) slots known delayed begins.slots_are last.lists)
+  where
+    by_answer : (answer : Option Doubted) → MatchOption answer (NoDoubt (program_of m) c (round (program_of m) c row last.number)) (IsFirstDoubt (program_of m) c (round (program_of m) c row last.number))
+        → Decides (program_of m) c row answer
+    by_answer None none = undoubted_is_definite m begins.numbered c row last.number valuation begins.numbers last.last none
+    by_answer (Some d) doubt = record {
+      least = round (program_of m) c row last.number;
+      is_least = record { number = last.number; last = last.last; is = refl };
+      first = doubt;
+    }

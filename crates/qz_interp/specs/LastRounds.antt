@@ -1,5 +1,5 @@
 -- What the lists of rounds come to: the first round, the last one, and whether it is definite.
-use Rattle.std.specs.Prelude.{◌≡◌, ℕ, suc, List, length, replicate, Some, slice_get}
+use Rattle.std.specs.Prelude.{◌≡◌, ℕ, suc, List, length, replicate, Option, Some, MatchOption, slice_get}
 use Rattle.std.specs.List.{AllByRecursion}
 use Rattle.qz_values.specs.declared.Value.{Value}
 use Rattle.qz_values.specs.declared.Know.{Know}
@@ -11,8 +11,8 @@ use Rattle.qz_syntax.specs.WellFormed.{IsNumbered}
 use Rattle.qz_meaning.specs.Layouts.{Met}
 use Rattle.qz_meaning.specs.Programs.{Program, program_of}
 use Rattle.qz_meaning.specs.Configurations.{Configuration, IsValuationOf}
-use Rattle.qz_meaning.specs.Settling.{step_met}
-use Rattle.qz_meaning.specs.Rounds.{round, IsLast, IsDefinite}
+use Rattle.qz_meaning.specs.Settling.{Environment, step_met}
+use Rattle.qz_meaning.specs.Rounds.{round, IsLast, IsLeast, IsDefinite}
 use Rattle.qz_interp.specs.declared.doubts.Doubted.{Doubted}
 use Rattle.qz_interp.specs.FirstDoubts.{AreLists, NoDoubt, IsFirstDoubt}
 
@@ -52,3 +52,13 @@ pub record AreLastRound (p : Program) (c : Configuration) (row : List Value) (kn
   pub number : ℕ
   pub last : IsLast p c row number
   pub lists : AreLists p (round p c row number) known delayed
+
+-- why a configuration with a row isn't definite: the first doubt of its least environment
+pub record IsRefusedFor (p : Program) (c : Configuration) (row : List Value) (d : Doubted) : Type 0 where
+  pub least : Environment
+  pub is_least : IsLeast p c row least
+  pub first : IsFirstDoubt p c least d
+
+-- whether a configuration with a row is definite, or why it isn't
+abbrev pub Decides : Program → Configuration → List Value → Option Doubted → Type 0
+Decides p c row answer = MatchOption answer (IsDefinite p c row) (IsRefusedFor p c row)

@@ -1,9 +1,11 @@
 //! The interpreter: macro steps of a whole program, by rounds from no knowledge up.
 //!
-//! Today it has one round: the walk's writes, verdicts on them by the numbers of instances, and what the
-//! instances settle to; and it tells the first instance that isn't definite.
+//! Today it has the rounds of one step: the walk's writes, verdicts on them by the numbers of instances,
+//! what the instances settle to, the rounds up to the last one, and whether that is definite or which
+//! instance is the first that isn't. The machine that goes from step to step isn't there yet.
 #![tactic(auto)]
 
+mod decisions;
 mod doubts;
 pub mod laws;
 mod rounds;
@@ -14,6 +16,7 @@ mod tallies;
 mod tests;
 mod verdicts;
 
+pub use decisions::decide;
 pub use doubts::{Doubted, first_doubted};
 pub use rounds::{Sheet, run_rounds, settle_round};
 pub use slots::{Entry, Slot, settle_delayed, settle_values};
