@@ -1,0 +1,12 @@
+mod Words
+mod Splitting
+mod Unspelling
+mod RightSideLemmas
+mod Advancing
+mod Paths
+mod Wholes
+mod Fresh
+mod Finishing
+mod Along
+mod LineFeeds
+mod Refusing

@@ -1,0 +1,10 @@
+pub mod Naming
+pub mod Parts
+pub mod Reading
+pub mod RightSides
+pub mod Unspelling
+pub mod PortLists
+pub mod Refusals
+pub mod Drafts
+pub mod Drafted
+pub mod Leading
