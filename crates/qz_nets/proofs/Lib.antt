@@ -1,0 +1,6 @@
+mod Lists
+mod Typing
+mod SameNets
+mod Growing
+mod Solving
+mod Folding
