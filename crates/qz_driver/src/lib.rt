@@ -12,15 +12,11 @@ pub mod first_runs;
 mod formal_numbers;
 mod instant_loop;
 mod limits;
-#[cfg(test)]
-mod programs;
 mod reader;
 mod refusal;
 mod source;
 mod status;
 mod surface;
-#[cfg(test)]
-mod tests;
 mod typing;
 mod wires;
 mod words;

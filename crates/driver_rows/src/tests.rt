@@ -2,7 +2,7 @@
 
 ghost use Rattle.std.specs.Prelude.{◌≤◌, ◌<◌};
 
-use crate::{Status, quartzc};
+use qz_driver::{Status, quartzc};
 use qz_io::{MemFiles, MemSink};
 use std::alloc::{AllocError, Global};
 use std::process::Abort;
