@@ -189,11 +189,11 @@ module _ (file : Meanings Variable) where
   }
 
 -- the names of the locals that a scope has
-there : {X : Type 0} (xs : List X) (y : X) (zs : List X) → slice_get (xs ++ (y ∷ zs)) (length xs) ≡ Some y
+pub there : {X : Type 0} (xs : List X) (y : X) (zs : List X) → slice_get (xs ++ (y ∷ zs)) (length xs) ≡ Some y
 there [] y zs = refl
 there (x ∷ xs) y zs = there xs y zs
 
-push : {X : Type 0} (xs : List X) (y : X) (zs : List X) → (xs ++ y ∷ []) ++ zs ≡ xs ++ (y ∷ zs)
+pub push : {X : Type 0} (xs : List X) (y : X) (zs : List X) → (xs ++ y ∷ []) ++ zs ≡ xs ++ (y ∷ zs)
 push xs y zs = append_assoc xs (y ∷ []) zs
 
 names_there : (xs ys zs : List Decl) → names_at (xs ++ (ys ++ zs)) (range_with_len (length xs) (length ys)) ≡ map (λ (decl : Decl). decl.name) ys

@@ -123,7 +123,7 @@ pub text_typed : (t : TypeText) → type_faults t ≡ [] → is_type (core_type 
 text_typed text.Bool e = refl
 text_typed (text.Bv width at) e = typed_if (is_type (Bv width)) (Bv width) refl (test_holds (is_type (Bv width)) WidthRange at e)
 
-both_true : (a b : Bool) → a ≡ true → b ≡ true → (a && b) ≡ true
+pub both_true : (a b : Bool) → a ≡ true → b ≡ true → (a && b) ≡ true
 both_true true b e f = f
 both_true false b e f = e
 

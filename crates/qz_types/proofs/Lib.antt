@@ -1,6 +1,8 @@
+pub mod Alike
 pub mod CoreDeclarationLemmas
 pub mod Counting
 pub mod DeclarationLemmas
+pub mod DeclaredAlike
 pub mod Depth
 pub mod Differing
 pub mod ExpressionLemmas
@@ -15,6 +17,11 @@ pub mod MakingLemmas
 pub mod MeaningLemmas
 pub mod NamesInduction
 pub mod OrderlyLemmas
+pub mod SoundFiles
+pub mod SoundForms
+pub mod SoundInduction
+pub mod SoundParts
 pub mod StatementLemmas
+pub mod TypedExpressions
 pub mod Unbound
 pub mod Unlabelled

@@ -14,5 +14,6 @@ pub mod Meanings
 pub mod Orderly
 pub mod Refusals
 pub mod Scopes
+pub mod ShortLists
 pub mod StatementFaults
 pub mod WrittenTypes

@@ -19,6 +19,7 @@ mod expressions;
 mod faults;
 mod file_faults;
 mod labels;
+mod laws;
 mod numbers;
 mod scope;
 mod statements;
@@ -29,4 +30,5 @@ mod variables;
 
 pub use faults::{Fault, TypeKind};
 pub use file_faults::first_fault;
+pub use laws::faultless_files_are_sound;
 pub use typed::{TypeRefusal, check};
