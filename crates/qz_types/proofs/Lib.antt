@@ -17,6 +17,7 @@ pub mod MakingLemmas
 pub mod MeaningLemmas
 pub mod NamesInduction
 pub mod OrderlyLemmas
+pub mod ShortLemmas
 pub mod SoundFiles
 pub mod SoundForms
 pub mod SoundInduction

@@ -22,6 +22,7 @@ mod labels;
 mod laws;
 mod numbers;
 mod scope;
+mod short_lists;
 mod statements;
 #[cfg(test)]
 mod tests;
