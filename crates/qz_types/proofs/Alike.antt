@@ -1,6 +1,6 @@
 -- Names that stand for the same variables in a file and in its core tree.
-use Rattle.std.proofs.Common.{◌≡◌, ℕ, ◌==◌, Bool, true, false, ◌||◌, List, [], ◌∷◌, ◌++◌, Option, Some, None, refl, sym, ap, subst, ◌∙◌, if◌then◌else◌, unwrap_or}
-use Rattle.std.specs.List.{list_any, slice_get}
+use Rattle.std.proofs.Common.{◌≡◌, ℕ, ◌==◌, Bool, true, false, ◌||◌, List, [], ◌∷◌, ◌++◌, Option, Some, None, refl, ap, subst, ◌∙◌, if◌then◌else◌, unwrap_or}
+use Rattle.std.specs.List.{slice_get}
 use Rattle.std.specs.Option.{option_map}
 use Rattle.std.specs.Str.{bytes_eq}
 use Rattle.std.proofs.lemmas.List.Folds.{list_any-append}
@@ -14,7 +14,7 @@ use Rattle.qz_syntax.specs.declared.file_expressions.NameAt.{NameAt}
 use Rattle.qz_syntax.specs.declared.files.TypeText.{TypeText}
 use Rattle.qz_syntax.specs.declared.files.TypeText.TheVariants as text
 use Rattle.qz_syntax.specs.Numbers.{contains}
-use Rattle.qz_syntax.specs.Typing.{Declared, Sight, Target, read_type, written_as, decl_target}
+use Rattle.qz_syntax.specs.Typing.{Declared, Sight, read_type, written_as, decl_target}
 use Rattle.qz_syntax.specs.Sound.{in_scope}
 use Rattle.qz_types.specs.declared.variables.Variable.{Variable}
 use Rattle.qz_types.specs.declared.faults.TypeKind.TheVariants.{WidthRange}

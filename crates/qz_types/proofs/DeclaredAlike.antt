@@ -1,5 +1,5 @@
 -- The names of formals and of locals stand for the same variables in a file and in its core tree.
-use Rattle.std.proofs.Common.{◌≡◌, ℕ, suc, ◌+◌, ◌==◌, Bool, true, false, ◌||◌, length, map, List, [], ◌∷◌, ◌++◌, Option, Some, None, refl, sym, ap, subst, ◌∙◌, length-append, arith, if◌then◌else◌}
+use Rattle.std.proofs.Common.{◌≡◌, ℕ, ◌+◌, ◌==◌, Bool, true, false, ◌||◌, length, map, List, [], ◌∷◌, ◌++◌, Some, None, refl, ap, subst, ◌∙◌, length-append, arith, if◌then◌else◌}
 use Rattle.std.specs.List.{flat_map, range_with_len, slice_get}
 use Rattle.std.specs.Option.{option_map, option_and_then}
 use Rattle.std.proofs.lemmas.Bool.{false≢true}
@@ -11,13 +11,12 @@ use Rattle.qz_syntax.specs.declared.declarations.Dir.{Dir}
 use Rattle.qz_syntax.specs.declared.declarations.Dir.TheVariants as dir
 use Rattle.qz_syntax.specs.declared.declarations.Decl.{Decl}
 use Rattle.qz_syntax.specs.declared.declarations.Formal.{Formal}
-use Rattle.qz_syntax.specs.declared.expressions.Var.{Var}
 use Rattle.qz_syntax.specs.declared.expressions.Var.TheVariants as var
 use Rattle.qz_syntax.specs.declared.file_expressions.NameAt.{NameAt}
 use Rattle.qz_syntax.specs.declared.files.FileDecl.{FileDecl}
 use Rattle.qz_syntax.specs.declared.files.FileFormal.{FileFormal}
 use Rattle.qz_syntax.specs.Numbers.{contains}
-use Rattle.qz_syntax.specs.Typing.{Declared, Sight, Target, formal_target, decl_target}
+use Rattle.qz_syntax.specs.Typing.{Declared, Sight, formal_target, decl_target}
 use Rattle.qz_types.specs.declared.variables.Variable.{Variable}
 use Rattle.qz_types.specs.WrittenTypes.{type_of_text, type_faults}
 use Rattle.qz_types.specs.ArgumentFaults.{is_writable}

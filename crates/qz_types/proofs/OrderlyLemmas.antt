@@ -1,7 +1,6 @@
--- The module of a file against which nothing is said is orderly, and no deeper than its levels allow.
-use Rattle.std.proofs.Common.{◌≡◌, ℕ, ◌+◌, ◌*◌, ◌≤◌, Bool, true, false, length, map, List, [], ◌∷◌, ◌++◌, Some, refl, sym, ap, subst, ◌∙◌, append-nil, arith}
+-- What is given for a file against which nothing is said is orderly, and typed where the file is bounded.
+use Rattle.std.proofs.Common.{◌≡◌, ℕ, ◌+◌, ◌≤◌, true, false, length, map, List, [], ◌∷◌, ◌++◌, refl, sym, ap, subst, ◌∙◌, append-nil, arith}
 use Rattle.std.specs.List.{flat_map, range_with_len, list_all}
-use Rattle.std.specs.Str.{bytes_eq}
 use Rattle.std.specs.Option.{is_none}
 use Rattle.qz_syntax.specs.declared.file_expressions.NameAt.{NameAt}
 use Rattle.qz_syntax.specs.declared.files.File.{File}
@@ -10,28 +9,30 @@ use Rattle.qz_syntax.specs.declared.files.FileProto.{FileProto}
 use Rattle.qz_syntax.specs.declared.declarations.Decl.{Decl}
 use Rattle.qz_values.specs.Types.{is_type}
 use Rattle.qz_syntax.specs.declared.names.Name.{Name}
-use Rattle.qz_syntax.specs.Numbers.{depth_of, holds_of, places_of, loops_of, locals_of, calls_of}
+use Rattle.qz_syntax.specs.Numbers.{depth_of, holds_of}
 use Rattle.qz_syntax.specs.DoubleNames.{is_among, are_distinct, formal_names, proto_names, names_differ}
-use Rattle.qz_syntax.specs.WellFormed.{IsNumbered, is_unlabelled}
+use Rattle.qz_syntax.specs.WellFormed.{IsNumbered, IsTyped, is_unlabelled}
 use Rattle.qz_types.specs.declared.faults.TypeKind.TheVariants.{DoubleName}
 use Rattle.qz_types.specs.Faults.{unless}
-use Rattle.qz_types.specs.Meanings.{Meanings, no_meanings, updated}
-use Rattle.qz_types.specs.Declarations.{Declaration, double_names, formal_variables, formal_faults, declared, proto_numbers, label_names as labels_declared}
+use Rattle.qz_types.specs.Meanings.{no_meanings}
+use Rattle.qz_types.specs.Declarations.{double_names, formal_variables, formal_faults, declared, proto_numbers, label_names as labels_declared}
 use Rattle.qz_types.specs.StatementFaults.{statement_faults}
 use Rattle.qz_types.specs.FileFaults.{body_of, callees_of, faults_of, labels_of}
 use Rattle.qz_types.specs.CoreDeclarations.{core_formal, core_proto}
 use Rattle.qz_types.specs.CoreModules.{no_numbers, root_names, core_body, core_of}
-use Rattle.qz_types.specs.Levels.{levels_of, IsBounded}
+use Rattle.qz_types.specs.Levels.{IsBounded}
 use Rattle.qz_types.specs.Orderly.{IsOrderly}
+use Rattle.qz_types.specs.ShortLists.{has_short_lists}
 use Rattle.qz_types.proofs.MadeInduction.{kept}
 use Rattle.qz_types.proofs.Counting.{Sort, Counted, Counts, keeps_counts, places_sort, loops_sort, locals_sort, calls_sort}
 use Rattle.qz_types.proofs.Unbound.{Unbound, keeps_unbound}
-use Rattle.qz_types.proofs.Unlabelled.{Unlabels, Unlabelled, keeps_unlabelled}
+use Rattle.qz_types.proofs.Unlabelled.{Unlabelled, keeps_unlabelled}
 use Rattle.qz_types.proofs.Labelling.{named, told_labels}
 use Rattle.qz_types.proofs.Depth.{deep_statement}
 use Rattle.qz_types.proofs.Differing.{Covers, known_by}
 use Rattle.qz_types.proofs.NamesInduction.{statement_names}
-use Rattle.qz_types.proofs.Faultless.{first_nil, second_nil, test_holds, names_declared, declared_distinct, names_of_formals, names_of_protos, unknown, GoodFormals, formals_good, GoodProtos, protos_good}
+use Rattle.qz_types.proofs.SoundFiles.{sound}
+use Rattle.qz_types.proofs.Faultless.{first_nil, second_nil, test_holds, names_declared, declared_distinct, names_of_formals, names_of_protos, unknown, formals_good, protos_good}
 
 -- the numbers of a sort in a file's body
 counted : (k : Sort) (file : File) → Counted k (core_body file) no_numbers
@@ -76,8 +77,8 @@ covers_formals formals = record {
       (subst (λ names. is_among names name ≡ true) (sym (names_of_formals formals)) e);
 }
 
-pub orderly : (file : File) → faults_of file ≡ [] → IsOrderly (core_of file)
-orderly file e =
+pub orderly : (file : File) → faults_of file ≡ [] → has_short_lists (body_of file) ≡ true → IsOrderly (core_of file)
+orderly file e short =
     let protos = file.protos in
     let a = flat_map (λ (proto : FileProto). formal_faults proto.formals) protos in
     let b = double_names (proto_numbers 0 protos) no_meanings in
@@ -102,6 +103,7 @@ orderly file e =
       unbound = kept Unbound keeps_unbound protos (callees_of protos) (body_of file) (root_names file.«module».formals) no_numbers;
       proto_types = good_protos.typed;
       formal_types = good_formals.typed;
+      sound = sound file e short;
       proto_formals = good_protos.few;
       formals = good_formals.few;
       protos = record {
@@ -122,9 +124,31 @@ orderly file e =
       };
     }
 
-pub shallow : (file : File) → IsBounded file → depth_of (core_of file).«module».body ≤ 600
+shallow : (file : File) → IsBounded file → depth_of (core_of file).«module».body ≤ 600
 shallow file bound =
     let deep = deep_statement file.protos (callees_of file.protos) (body_of file) in
     let below = deep.below.below (root_names file.«module».formals) no_numbers in
     let most = bound.levels in
     omega (arith, below, most)
+
+pub all_typed : (file : File) → faults_of file ≡ [] → has_short_lists (body_of file) ≡ true → IsBounded file → IsTyped (core_of file)
+all_typed file e short bound =
+    let o = orderly file e short in
+    record {
+      is_module = record {
+        well_formed = record {
+          numbered = o.numbered;
+          unlabelled = o.unlabelled;
+          proto_types = o.proto_types;
+          formal_types = o.formal_types;
+          local_types = o.local_types;
+          sound = o.sound;
+        };
+        unbound = o.unbound;
+        names = o.names;
+        formals = o.formals;
+        depth = shallow file bound;
+      };
+      protos = o.protos;
+      formals = o.proto_formals;
+    }

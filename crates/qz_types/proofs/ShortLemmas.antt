@@ -1,5 +1,5 @@
 -- Whether the lists in each form of statement are short.
-use Rattle.std.proofs.Common.{◌≡◌, ℕ, ◌^◌, Bool, true, ◌&&◌, nat_lt, List, map, Option, Some, None, sym, ap, ◌∙◌}
+use Rattle.std.proofs.Common.{◌≡◌, ◌^◌, Bool, true, ◌&&◌, nat_lt, map, Some, None, sym, ap, ◌∙◌}
 use Rattle.std.specs.List.{list_all}
 use Rattle.std.proofs.lemmas.List.{length-map}
 use Rattle.qz_syntax.specs.declared.file_statements.Cond.{Cond}

@@ -1,5 +1,5 @@
 -- The core tree of a file against which nothing is said is sound, where its lists are short.
-use Rattle.std.proofs.Common.{◌≡◌, Bool, true, length, map, List, [], ◌++◌, refl, sym, ap, subst, ◌∙◌, append-nil}
+use Rattle.std.proofs.Common.{◌≡◌, true, map, List, [], ◌++◌, sym, subst, append-nil}
 use Rattle.std.specs.List.{flat_map}
 use Rattle.std.specs.Option.{is_none}
 use Rattle.qz_syntax.specs.declared.declarations.Formal.{Formal}
@@ -7,7 +7,7 @@ use Rattle.qz_syntax.specs.declared.declarations.Decl.{Decl}
 use Rattle.qz_syntax.specs.declared.files.File.{File}
 use Rattle.qz_syntax.specs.declared.files.FileFormal.{FileFormal}
 use Rattle.qz_syntax.specs.declared.files.FileProto.{FileProto}
-use Rattle.qz_syntax.specs.Typing.{Declared, no_sight}
+use Rattle.qz_syntax.specs.Typing.{no_sight}
 use Rattle.qz_syntax.specs.Sound.{is_sound}
 use Rattle.qz_syntax.specs.WellFormed.{declared_by}
 use Rattle.qz_types.specs.declared.faults.TypeKind.TheVariants.{DoubleName}
@@ -17,7 +17,7 @@ use Rattle.qz_types.specs.WrittenTypes.{type_faults}
 use Rattle.qz_types.specs.Declarations.{double_names, formal_variables, formal_faults, too_many, declared, proto_numbers, label_names}
 use Rattle.qz_types.specs.StatementFaults.{statement_faults}
 use Rattle.qz_types.specs.FileFaults.{body_of, callees_of, faults_of, labels_of}
-use Rattle.qz_types.specs.CoreDeclarations.{core_formal, core_proto, formal_numbers}
+use Rattle.qz_types.specs.CoreDeclarations.{core_formal, formal_numbers}
 use Rattle.qz_types.specs.CoreModules.{no_numbers, root_names, core_body, core_of}
 use Rattle.qz_types.specs.ShortLists.{has_short_lists}
 use Rattle.qz_types.proofs.Faultless.{first_nil, second_nil}

@@ -7,7 +7,6 @@ use Rattle.qz_values.specs.declared.Ty.{Ty}
 use Rattle.qz_values.specs.Values.{yes}
 use Rattle.qz_syntax.specs.declared.declarations.Decl.{Decl}
 use Rattle.qz_syntax.specs.declared.expressions.Var.{Var}
-use Rattle.qz_syntax.specs.declared.expressions.Expr.{Expr}
 use Rattle.qz_syntax.specs.declared.names.Name.{Name}
 use Rattle.qz_syntax.specs.declared.statements.Kind.{Kind}
 use Rattle.qz_syntax.specs.declared.statements.Stmt.{Stmt}
@@ -17,7 +16,7 @@ use Rattle.qz_syntax.specs.declared.files.FileFormal.{FileFormal}
 use Rattle.qz_syntax.specs.declared.files.FileProto.{FileProto}
 use Rattle.qz_syntax.specs.Typing.{Declared, Sight, node_type, read_type, is_condition}
 use Rattle.qz_syntax.specs.Sound.{type_at, has_members, is_hold_of, in_scope as inside_scope, node_is_sound, is_sound}
-use Rattle.qz_syntax.proofs.Equations.{fold-Lit, fold-Nothing, fold-Assign, fold-Delayed, fold-Pause, fold-Seq, fold-Par, fold-If, fold-Loop, fold-Abort, fold-Suspend, fold-Scope}
+use Rattle.qz_syntax.proofs.Equations.{fold-Lit, fold-Nothing, fold-Pause, fold-Seq, fold-Par, fold-If, fold-Loop, fold-Abort, fold-Suspend, fold-Scope}
 use Rattle.qz_types.specs.declared.numbers.Numbers.{Numbers}
 use Rattle.qz_types.specs.declared.variables.Variable.{Variable}
 use Rattle.qz_types.specs.Meanings.{Meanings}

@@ -1,5 +1,5 @@
 -- What is made of a statement is sound, where nothing is said against the statement and its lists are short.
-use Rattle.std.proofs.Common.{◌≡◌, ℕ, ◌^◌, Bool, true, false, ◌&&◌, nat_lt, length, map, List, [], ◌∷◌, ◌++◌, Option, Some, None, refl, sym, ap, subst, ◌∙◌, if◌then◌else◌, unwrap_or}
+use Rattle.std.proofs.Common.{◌≡◌, ℕ, ◌^◌, Bool, true, false, nat_lt, map, List, [], ◌∷◌, ◌++◌, Option, Some, None, refl, sym, ap, subst, ◌∙◌, if◌then◌else◌, unwrap_or}
 use Rattle.std.specs.List.{flat_map, list_all}
 use Rattle.std.proofs.lemmas.Bool.{and_parts}
 use Rattle.std.proofs.lemmas.List.{length-map}
@@ -26,7 +26,6 @@ use Rattle.qz_types.specs.WrittenTypes.{type_faults}
 use Rattle.qz_types.specs.Declarations.{declared, double_names, local_variables, formal_faults}
 use Rattle.qz_types.specs.ArgumentFaults.{formals_of}
 use Rattle.qz_types.specs.StatementFaults.{Said, condition_faults, node_faults, block_faults, statement_faults}
-use Rattle.qz_types.specs.CoreDeclarations.{local_names, core_decls}
 use Rattle.qz_types.specs.CoreExpressions.{core_expression, core_variable}
 use Rattle.qz_types.specs.Makers.{Maker, Valued, with_call, always, pausing, repeating, aborting, in_sequence, in_parallel}
 use Rattle.qz_types.specs.CoreStatements.{holds, fails, label_name, assigned, doing_nothing, whiling, halting, awaiting, awaiting_now, strong, restarting, on_every, core_arguments, node_made, block_made, made}

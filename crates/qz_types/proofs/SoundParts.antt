@@ -1,5 +1,5 @@
 -- Conditions, assignments and calls against which nothing is said are sound in the core tree.
-use Rattle.std.proofs.Common.{◌≡◌, ℕ, zero, suc, ◌==◌, Bool, true, false, ◌&&◌, List, [], ◌∷◌, ◌++◌, length, map, Option, Some, None, refl, sym, ap, ap₂, subst, ◌∙◌, arith, if◌then◌else◌, unwrap_or}
+use Rattle.std.proofs.Common.{◌≡◌, ℕ, zero, suc, ◌==◌, Bool, true, false, List, [], ◌∷◌, ◌++◌, length, map, Option, Some, None, refl, sym, ap, ap₂, subst, ◌∙◌, arith, if◌then◌else◌, unwrap_or}
 use Rattle.std.specs.List.{flat_map, slice_get}
 use Rattle.std.specs.Option.{option_map, option_and_then, option_map_or}
 use Rattle.std.proofs.lemmas.Option.{slice_get-map}
@@ -17,9 +17,7 @@ use Rattle.qz_syntax.specs.declared.declarations.Formal.{Formal}
 use Rattle.qz_syntax.specs.declared.declarations.Proto.{Proto}
 use Rattle.qz_syntax.specs.declared.expressions.Var.{Var}
 use Rattle.qz_syntax.specs.declared.expressions.Var.TheVariants as var
-use Rattle.qz_syntax.specs.declared.expressions.Expr.{Expr}
 use Rattle.qz_syntax.specs.declared.expressions.Expr.TheVariants as expr
-use Rattle.qz_syntax.specs.declared.statements.Arg.{Arg}
 use Rattle.qz_syntax.specs.declared.file_expressions.NameAt.{NameAt}
 use Rattle.qz_syntax.specs.declared.file_expressions.FileExpr.{FileExpr, map-FileExpr, out-FileExpr}
 use Rattle.qz_syntax.specs.declared.file_expressions.FileExpr.TheOpen.{FileExpr-F}
@@ -32,7 +30,7 @@ use Rattle.qz_syntax.specs.Typing.{Declared, Sight, Target as Written, node_type
 use Rattle.qz_syntax.specs.Sound.{type_at, is_assignment, is_output_for, fits_formal, fit_formals, is_call}
 use Rattle.qz_syntax.proofs.Equations.{fold-Lit, fold-Un}
 use Rattle.qz_types.specs.declared.faults.Fault.{Fault}
-use Rattle.qz_types.specs.declared.faults.TypeKind.TheVariants.{UnknownName, TypeDiffers, WriteToInput, NotWritable, ArgCount, ArgClass}
+use Rattle.qz_types.specs.declared.faults.TypeKind.TheVariants.{TypeDiffers, WriteToInput, NotWritable, ArgCount, ArgClass}
 use Rattle.qz_types.specs.declared.variables.Variable.{Variable}
 use Rattle.qz_types.specs.Faults.{fault_at, unless}
 use Rattle.qz_types.specs.Meanings.{Meanings, no_meanings}
@@ -46,7 +44,7 @@ use Rattle.qz_types.specs.CoreExpressions.{core_expression, core_type, core_vari
 use Rattle.qz_types.specs.CoreStatements.{holds, fails, output_variable, core_argument, core_arguments}
 use Rattle.qz_types.proofs.Faultless.{first_nil, second_nil, test_holds, both_true}
 use Rattle.qz_types.proofs.Alike.{Alike, StandsIf, text_named}
-use Rattle.qz_types.proofs.TypedExpressions.{at_type, at_both, HasType, expression_typed}
+use Rattle.qz_types.proofs.TypedExpressions.{at_type, at_both, expression_typed}
 
 negated : (o : Option Ty) → is_condition o ≡ true → is_condition (option_and_then (λ s. type1_of op.Not s) o) ≡ true
 negated None e = cc

@@ -1,5 +1,5 @@
 -- An expression against which nothing is said has in the core tree the type that is told of it.
-use Rattle.std.proofs.Common.{◌≡◌, ℕ, ◌+◌, ◌-◌, ◌^◌, ◌<◌, Bool, true, false, ◌&&◌, nat_lt, nat_le, List, [], ◌∷◌, ◌++◌, Option, Some, None, is_some, refl, sym, ap, ap₂, subst, ◌∙◌, arith, if◌then◌else◌, unwrap_or}
+use Rattle.std.proofs.Common.{◌≡◌, ℕ, ◌+◌, ◌-◌, ◌^◌, Bool, true, false, ◌&&◌, nat_lt, nat_le, List, [], ◌∷◌, ◌++◌, Option, Some, None, is_some, refl, sym, ap, ap₂, subst, ◌∙◌, arith, if◌then◌else◌, unwrap_or}
 use Rattle.std.specs.Option.{option_and_then}
 use Rattle.std.proofs.lemmas.Bool.{and_parts}
 use Rattle.std.proofs.lemmas.Bool.Decides.{nat_tests}
@@ -7,7 +7,6 @@ use Rattle.qz_values.specs.declared.Ty.{Ty}
 use Rattle.qz_values.specs.declared.Ty.TheVariants.{Bool as Truth, Bv}
 use Rattle.qz_values.specs.declared.Op1.{Op1}
 use Rattle.qz_values.specs.declared.Op2.{Op2}
-use Rattle.qz_values.specs.declared.Value.{Value}
 use Rattle.qz_values.specs.Types.{width_of, is_type, is_vector}
 use Rattle.qz_values.specs.Values.{value_of, truth_of, no}
 use Rattle.qz_values.specs.Tables.{type1_of, type2_of, choose_type, bit_type, slice_type, concat_type, has_bit, has_slice, has_room}
@@ -22,13 +21,13 @@ use Rattle.qz_syntax.specs.Typing.{Declared, Sight, node_type, read_type, litera
 use Rattle.qz_syntax.specs.Sound.{type_at}
 use Rattle.qz_syntax.proofs.Equations.{fold-Lit, fold-Var, fold-Un, fold-Bin, fold-Choose, fold-Bit, fold-Slice, fold-Concat}
 use Rattle.qz_types.specs.declared.faults.Fault.{Fault}
-use Rattle.qz_types.specs.declared.faults.TypeKind.TheVariants.{UnknownName, TypeDiffers, WidthRange, LiteralRange, SliceRange}
+use Rattle.qz_types.specs.declared.faults.TypeKind.TheVariants.{TypeDiffers, WidthRange, LiteralRange, SliceRange}
 use Rattle.qz_types.specs.declared.variables.Variable.{Variable}
 use Rattle.qz_types.specs.Faults.{fault_at, unless}
 use Rattle.qz_types.specs.Meanings.{Meanings}
 use Rattle.qz_types.specs.WrittenTypes.{vectors, where_typed, where_both}
 use Rattle.qz_types.specs.ExpressionTypes.{Told, told, node_told, literal_faults, variable_told, one_told, two_told, choice_told, selected, selection_faults, selection_told, joining_faults, joined_told}
-use Rattle.qz_types.specs.CoreExpressions.{core_expression, node_core_expression, core_index, core_selection, core_variable, literal_value}
+use Rattle.qz_types.specs.CoreExpressions.{core_expression, node_core_expression, core_index, core_selection, literal_value}
 use Rattle.qz_types.proofs.Faultless.{first_nil, second_nil, test_holds, both_true}
 use Rattle.qz_types.proofs.Alike.{Alike, StandsIf}
 

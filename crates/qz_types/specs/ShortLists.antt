@@ -1,5 +1,5 @@
 -- Whether the lists in a file are so short that each member has a number of 32 bits.
-use Rattle.std.specs.Prelude.{ℕ, ◌^◌, Bool, true, ◌&&◌, nat_lt, List, length}
+use Rattle.std.specs.Prelude.{◌^◌, Bool, true, ◌&&◌, nat_lt, List, length}
 use Rattle.std.specs.Option.{option_map_or}
 use Rattle.std.specs.List.{list_all}
 use Rattle.qz_syntax.specs.declared.file_statements.FileStmt.{FileStmt}

@@ -19,7 +19,6 @@ mod expressions;
 mod faults;
 mod file_faults;
 mod labels;
-mod laws;
 mod numbers;
 mod scope;
 mod short_lists;
@@ -31,5 +30,4 @@ mod variables;
 
 pub use faults::{Fault, TypeKind};
 pub use file_faults::first_fault;
-pub use laws::faultless_files_are_sound;
 pub use typed::{TypeRefusal, check};

@@ -1,7 +1,7 @@
 //! A file after typing, or its first fault.
 
-ghost use Rattle.std.specs.Prelude.{◌≡◌, ◌≤◌, [], IfOk, IfErr, OnOk};
-ghost use Rattle.qz_syntax.specs.Numbers.{depth_of};
+ghost use Rattle.std.specs.Prelude.{◌≡◌, [], true, IfOk, IfErr, OnOk};
+ghost use Rattle.qz_syntax.specs.WellFormed.{IsTyped};
 ghost use Rattle.qz_types.specs.declared.typed.TypeRefusal.TheVariants.{Memory};
 ghost use Rattle.qz_types.specs.CoreModules.{core_of, core_body, module_with, root_names};
 ghost use Rattle.qz_types.specs.CoreStatements.{made};
@@ -10,6 +10,7 @@ ghost use Rattle.qz_types.specs.Levels.{IsBounded};
 ghost use Rattle.qz_types.specs.Orderly.{IsOrderly};
 ghost use Rattle.qz_types.specs.Refusals.{IsRefused};
 ghost use Rattle.qz_types.specs.Scopes.{meanings_of};
+ghost use Rattle.qz_types.specs.ShortLists.{has_short_lists};
 
 use crate::core_declarations::{core_formals, core_protos, root_names};
 use crate::core_statements::block;
@@ -17,6 +18,7 @@ use crate::declarations::protos as proto_numbers;
 use crate::faults::{FirstFault, TypeKind};
 use crate::file_faults::first_fault;
 use crate::numbers::Numbers;
+use crate::short_lists::lists_are_short;
 use crate::statements::Callees;
 use qz_syntax::{File, Formal, Module, Name, Stmt, Typed};
 use sqlite_items::Items;
@@ -44,13 +46,13 @@ impl From<AllocError> for TypeRefusal {
 
 /// The prototypes of a file, and its module with the core tree of its body, exactly where nothing is said
 /// against the file. Otherwise the fault with the least offset, at one offset the first in the order of the
-/// kinds.
+/// kinds. For a list of more members than there are numbers there is no memory; no text has one.
 pub fn check(alloc: Global, f: &File) -> Result<Typed, TypeRefusal>
     ensures typed { IfOk result (λ typed. typed ≡ core_of f.now) }
     ensures accepted { OnOk result (faults_of f.now ≡ []) }
     ensures refused { IfErr result (λ refusal. IsRefused f.now refusal) }
     ensures orderly { IfOk result (λ typed. IsOrderly typed) }
-    ensures depth { IfOk result (λ typed. IsBounded f.now → depth_of typed.«module».body ≤ 600) }
+    ensures well_typed { IfOk result (λ typed. IsBounded f.now → IsTyped typed) }
 {
     match first_fault(alloc, f)? {
         Some(fault) => Err(TypeRefusal::At {
@@ -64,10 +66,15 @@ pub fn check(alloc: Global, f: &File) -> Result<Typed, TypeRefusal>
     }
 }
 
-/// The prototypes of a file, and its module.
+/// The prototypes of a file, and its module. For a list of more members than there are numbers there is no
+/// memory.
 fn typed(alloc: Global, f: &File) -> Result<Typed, AllocError>
-    ensures { IfOk result (λ typed. typed ≡ core_of f.now) }
+    ensures core { IfOk result (λ typed. typed ≡ core_of f.now) }
+    ensures short { OnOk result (has_short_lists (body_of f.now) ≡ true) }
 {
+    if !lists_are_short(&f.body) {
+        return Err(AllocError);
+    }
     let module = module(alloc, f)?;
     let protos = core_protos(alloc, f.protos.as_slice())?;
     Ok(Typed { protos, module })
