@@ -61,9 +61,11 @@ pub formals_parallel : (d : Declared) (sight : Sight) (k : ℕ) (formals : List 
     → Entries d.formals k (map core_formal formals) → Parallel d sight (formal_variables formals) (formal_numbers k formals)
 formals_parallel d sight k [] e found = tt
 formals_parallel d sight k (formal ∷ formals) e found =
-    let rest = flat_map (λ (formal : FileFormal). type_faults formal.ty) formals in
-    (refl, formal_stands d sight k formal (first_nil (type_faults formal.ty) rest e) found.0,
-    formals_parallel d sight (k + 1) formals (second_nil (type_faults formal.ty) rest e) found.1)
+    let rest = flat_map (λ (formal : FileFormal). type_faults formal.ty) formals in (
+      refl,
+      formal_stands d sight k formal (first_nil (type_faults formal.ty) rest e) found.0,
+      formals_parallel d sight (k + 1) formals (second_nil (type_faults formal.ty) rest e) found.1,
+    )
 
 -- each number from one on is among these, as far as a list goes
 abbrev pub InSight : {X : Type 0} → List ℕ → ℕ → List X → Type 0

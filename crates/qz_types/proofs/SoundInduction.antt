@@ -191,8 +191,7 @@ module _ (protos : List FileProto) (callees : Meanings ℕ) (formals : List File
       let here = flat_map (λ (s : Said). s file) (map said stmts) in
       let rest = flat_map (λ list. flat_map (λ (s : Said). s file) list) (map (map said) (map (map (λ (e : Stated). e.0)) lists)) in
       let shorts = and_parts (list_is_short (map has_short_lists stmts)) (list_all list_is_short (map (map has_short_lists) (map (map (λ (e : Stated). e.0)) lists))) h in
-      let own = and_parts (is_short (map has_short_lists stmts)) (list_all (λ (short : Bool). short) (map has_short_lists stmts)) shorts.0 in
-      (
+      let own = and_parts (is_short (map has_short_lists stmts)) (list_all (λ (short : Bool). short) (map has_short_lists stmts)) shorts.0 in (
         sound_sequence protos formals file (map makes stmts) (still_short has_short_lists makes stmts own.0) (sound_list list file (first_nil here rest e) own.1),
         sound_lists lists file (second_nil here rest e) shorts.1,
       )

@@ -144,6 +144,7 @@ module _ (d : Declared) (sight : Sight) (file : Meanings Variable) (names : Mean
       told_at : (known : Option Variable) → (variable_told known name.at).ty ≡ (variable_told known at).ty
       told_at None = refl
       told_at (Some known) = refl
+
       told_faults : (known : Option Variable) → (variable_told known name.at).faults ≡ [] → (variable_told known at).faults ≡ []
       told_faults None g = cc
       told_faults (Some known) g = refl
