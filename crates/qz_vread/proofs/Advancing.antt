@@ -67,7 +67,7 @@ all_from_first P [] (y ∷ ys) are e = are
 all_from_first P (x ∷ xs) [] are e = absurd cc
 all_from_first P (x ∷ xs) (y ∷ ys) are e = (are.0, all_from_first P xs ys are.1 e)
 
-all_push : {A : Type 0} (P : A → Type 0) (xs : List A) (x : A) → AllByRecursion P xs → P x → AllByRecursion P (xs ++ x ∷ [])
+pub all_push : {A : Type 0} (P : A → Type 0) (xs : List A) (x : A) → AllByRecursion P xs → P x → AllByRecursion P (xs ++ x ∷ [])
 all_push P [] x all one = (one, tt)
 all_push P (y ∷ ys) x all one = (all.0, all_push P ys x all.1 one)
 
@@ -80,7 +80,7 @@ among_push (y ∷ ys) n x none apart =
 pub other_way : (a b : List ℕ) → bytes_eq a b ≡ false → bytes_eq b a ≡ false
 other_way a b e = false_from_ne_true (bytes_eq b a) (λ same. both_ways (bytes_eq a b) e ((bytes_eq-Decides a b).1 (sym ((bytes_eq-Decides b a).0 same))))
 
-distinct_push : (xs : List (List ℕ)) (n : List ℕ) → are_distinct xs ≡ true → is_among xs n ≡ false → are_distinct (xs ++ n ∷ []) ≡ true
+pub distinct_push : (xs : List (List ℕ)) (n : List ℕ) → are_distinct xs ≡ true → is_among xs n ≡ false → are_distinct (xs ++ n ∷ []) ≡ true
 distinct_push [] n apart none = refl
 distinct_push (x ∷ xs) n apart none =
     let parts = and_parts (not (is_among xs x)) (are_distinct xs) apart in

@@ -22,9 +22,9 @@ use Rattle.std.specs.Option.{option_map_or}
 use Rattle.std.proofs.lemmas.List.{append_cancel_left}
 use Rattle.qz_vtext.specs.Names.{name_text}
 use Rattle.qz_vtext.specs.Spelling.{net_text, port_text, sign_text, constant_text, mark_text, right_side_text}
-use Rattle.qz_vread.specs.Parts.{lacks, NoFront}
+use Rattle.qz_vread.specs.Parts.{is_word, lacks, NoFront}
 use Rattle.qz_vread.specs.RightSides.{IsDeclared, AreDeclared2, AreDeclared3, ReadsForm, ReadsSelection, IsMade, Makes, IsJoined, IsChoice, IsOperation, IsBinary, IsBitOf, IsSliceOf}
-use Rattle.qz_vread.proofs.Words.{is_word, all_words, all-append, decimal_words, name_words, words_lack}
+use Rattle.qz_vread.proofs.Words.{all_words, all-append, decimal_words, name_words, words_lack}
 use Rattle.qz_vread.proofs.Splitting.{has_it, split_once, no_front, heads_differ}
 
 port_words : (ports : List Port) (k : ℕ) → all_words (port_text ports k) ≡ true
@@ -222,7 +222,7 @@ slice_lacks mark high low other colon bracket =
     (all-append p (58 ∷ []) (decimal low ++ codes "]") (rw colon refl)
     (all-append p (decimal low) (codes "]") (decimal_lacks mark low other) (rw bracket refl)))
 
-index_lacks : (mark i : ℕ) → is_word mark ≡ false → (93 == mark) ≡ false → lacks mark (decimal i ++ codes "]") ≡ true
+pub index_lacks : (mark i : ℕ) → is_word mark ≡ false → (93 == mark) ≡ false → lacks mark (decimal i ++ codes "]") ≡ true
 index_lacks mark i other bracket = all-append (λ byte. not (byte == mark)) (decimal i) (codes "]") (decimal_lacks mark i other) (rw bracket refl)
 
 pub choice_form : (types : NetTypes) (inputs : List Port) (t : Ty) (bytes first rest sides : List ℕ) (found : Option Rhs)

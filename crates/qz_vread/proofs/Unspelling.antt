@@ -12,7 +12,7 @@ use Rattle.std.proofs.lemmas.Fmt.{digits_is_IsNumeral}
 use Rattle.qz_vtext.specs.Names.{is_plain, character_text, name_text}
 use Rattle.qz_vread.specs.Unspelling.{Unspelled, with_byte, with_bytes, whole, unspelled}
 
-abbrev at : List ℕ → Option ℕ → Option Unspelled
+abbrev pub at : List ℕ → Option ℕ → Option Unspelled
 at characters code = Some (record { characters = characters; code = code })
 
 after_grows : (n : ℕ) (ds : List ℕ) → n ≤ digits_value_after 16 n ds

@@ -5,11 +5,7 @@ use Rattle.std.specs.Fmt.{digits, digits_onto, digit_glyph, decimal}
 use Rattle.std.proofs.lemmas.Bool.{and_parts, and_from, not_from_false, false_from_ne_true, eqb-true}
 use Rattle.std.proofs.lemmas.Bool.Decides.{nat_tests}
 use Rattle.qz_vtext.specs.Names.{is_plain, character_text, name_text}
-use Rattle.qz_vread.specs.Parts.{lacks}
-
--- a byte of a name or a number
-abbrev pub is_word : ℕ → Bool
-is_word byte = is_plain byte || (byte == 36)
+use Rattle.qz_vread.specs.Parts.{is_word, lacks}
 
 abbrev pub all_words : List ℕ → Bool
 all_words bytes = list_all is_word bytes

@@ -203,3 +203,9 @@ nothing_read = record {
   values = [];
   nexts = [];
 }
+
+-- the last line was read, and so was the first, with the name
+pub record IsWhole (d : Draft) : Type 0 where
+  pub last : d.stage ≡ stage.Nothing
+  pub characters : List ℕ
+  pub named : d.name ≡ Some characters

@@ -14,6 +14,11 @@ use Rattle.qz_vread.specs.declared.drafts.Draft.{Draft}
 use Rattle.qz_vread.specs.declared.drafts.Stage.{Stage}
 use Rattle.qz_vread.specs.declared.drafts.Stage.TheVariants as stage
 use Rattle.qz_vread.specs.Naming.{IsNamed}
+use Rattle.qz_vread.specs.Parts.{NoEnd}
+use Rattle.qz_vread.specs.PortLists.{PortLists}
+use Rattle.qz_vtext.specs.Names.{name_text}
+use Rattle.qz_vtext.specs.Spelling.{type_text}
+use Rattle.std.specs.Fmt.{decimal}
 use Rattle.qz_vtext.specs.Lines.{module_line, input_text, output_text, register_line, wire_line, assign_line, output_line, initial_line, next_line}
 
 -- the types of the nets that are declared
@@ -40,6 +45,18 @@ with_comma false text = text
 abbrev pub after_port : Bool → Stage
 after_port true = stage.Port
 after_port false = stage.PortsEnd
+
+-- a line of the list of ports is this port's, and what comes after it
+pub record IsComma (line port : List ℕ) (after : Stage) : Type 0 where
+  pub more : Bool
+  pub whole : line ≡ with_comma more port
+  pub leads : after ≡ after_port more
+  pub bare : more ≡ false → NoEnd line (codes ",")
+
+-- a name that no port has
+pub record IsNewName (ports : PortLists) (name : List ℕ) : Type 0 where
+  pub named : IsNamed name
+  pub new : is_among (port_names (ports.inputs ++ ports.outputs)) name ≡ false
 
 -- a port that can come next
 pub record IsNewPort (d : Draft) (port : Port) : Type 0 where
@@ -70,6 +87,15 @@ IsInputLine d = IsLine (λ (port : Port × Bool). IsNewInput d port.0) (λ port.
 abbrev pub IsOutputLine : Draft → List ℕ → Draft → Type 0
 IsOutputLine d = IsLine (λ (port : Port × Bool). IsNewPort d port.0) (λ port. with_comma port.1 (output_text port.0)) (with_output d)
 
+-- what stands after the first word of the line of an input, without its `,`
+abbrev pub IsInputPart : Draft → Stage → List ℕ → Draft → Type 0
+IsInputPart d stage = IsLine (IsNewInput d) (λ (port : Port). type_text port.ty ++ (codes "i_" ++ name_text port.name))
+    (λ port. record d { stage = stage; ports = record { inputs = d.ports.inputs ++ port ∷ []; outputs = d.ports.outputs } })
+
+abbrev pub IsOutputPart : Draft → Stage → List ℕ → Draft → Type 0
+IsOutputPart d stage = IsLine (IsNewPort d) (λ (port : Port). type_text port.ty ++ (codes "o_" ++ name_text port.name))
+    (λ port. record d { stage = stage; ports = record { inputs = d.ports.inputs; outputs = d.ports.outputs ++ port ∷ [] } })
+
 -- all registers come before the wires
 pub record IsNewRegister (d : Draft) (t : Ty) : Type 0 where
   pub typed : IsType t
@@ -85,6 +111,14 @@ IsWireLine d = IsLine IsType (wire_line (length d.wires)) (λ t. record d { stag
 abbrev pub IsAssignLine : Ty → Draft → List ℕ → Draft → Type 0
 IsAssignLine t d = IsLine (λ right. right_side_type (types_in d) right ≡ Some t) (assign_line d.ports.inputs (length d.wires))
     (λ right. record d { stage = stage.Net; wires = d.wires ++ (t, right) ∷ [] })
+
+-- what stands after the first word of the line of a register
+abbrev pub IsRegisterPart : Draft → List ℕ → Draft → Type 0
+IsRegisterPart d = IsLine (IsNewRegister d) (λ t. type_text t ++ (codes "r_" ++ (decimal (length d.registers) ++ codes ";")))
+    (λ t. record d { stage = stage.Net; registers = d.registers ++ default_of t ∷ [] })
+
+abbrev pub IsWirePart : Draft → List ℕ → Draft → Type 0
+IsWirePart d = IsLine IsType (λ t. type_text t ++ (codes "w_" ++ (decimal (length d.wires) ++ codes ";"))) (λ t. record d { stage = stage.Assign t })
 
 -- a net of this type is declared
 pub record HasNet (types : NetTypes) (t : Ty) : Type 0 where

@@ -5,6 +5,8 @@ pub mod RightSides
 pub mod Unspelling
 pub mod PortLists
 pub mod Refusals
+pub mod TypeSets
 pub mod Drafts
 pub mod Drafted
 pub mod Leading
+pub mod Answers

@@ -1,6 +1,11 @@
 -- Parts of bytes: what stands in front, at the end, and before and after a byte.
-use Rattle.std.specs.Prelude.{◌≡◌, ℕ, Bool, true, not, ◌==◌, List, ◌∷◌, ◌++◌}
+use Rattle.std.specs.Prelude.{◌≡◌, ℕ, Bool, true, not, ◌==◌, ◌||◌, List, ◌∷◌, ◌++◌}
 use Rattle.std.specs.List.{list_all}
+use Rattle.qz_vtext.specs.Names.{is_plain}
+
+-- a byte of a spelled name or of a number
+abbrev pub is_word : ℕ → Bool
+is_word byte = is_plain byte || (byte == 36)
 
 -- whether none of the bytes is this one
 abbrev pub lacks : ℕ → List ℕ → Bool

@@ -8,7 +8,15 @@ use Rattle.qz_verilog.specs.declared.nets.Ref.{Ref}
 use Rattle.qz_verilog.specs.declared.nets.Rhs.{Rhs}
 use Rattle.qz_verilog.specs.declared.nets.Rhs.TheVariants as rhs
 use Rattle.qz_verilog.specs.Types.{NetTypes, net_type, has_sign, right_side_type}
+use Rattle.qz_verilog.specs.Validity.{declared_types}
 use Rattle.qz_vtext.specs.Spelling.{net_text, sign_text, right_side_text}
+use Rattle.qz_vread.specs.declared.nets.Nets.{Nets}
+
+abbrev pub inputs_of : Nets → List Port
+inputs_of nets = nets.ports.now.inputs
+
+abbrev pub types_of : Nets → NetTypes
+types_of nets = declared_types nets.ports.now.inputs nets.regs.now nets.wires.now
 
 -- a net that may be read
 pub record IsDeclared (types : NetTypes) (net : Ref) : Type 0 where

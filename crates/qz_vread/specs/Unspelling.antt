@@ -1,5 +1,5 @@
 -- How the bytes of a spelled name are read, one by one.
-use Rattle.std.specs.Prelude.{ℕ, ◌+◌, ◌*◌, ◌^◌, ◌==◌, ◌&&◌, nat_lt, List, [], ◌∷◌, ◌++◌, Option, Some, None, if◌then◌else◌}
+use Rattle.std.specs.Prelude.{◌≡◌, ℕ, Bool, true, false, ◌+◌, ◌*◌, ◌^◌, ◌==◌, ◌&&◌, nat_lt, List, [], ◌∷◌, ◌++◌, Option, Some, None, if◌then◌else◌}
 use Rattle.std.specs.Char.{digit_value, is_digit}
 use Rattle.std.specs.Str.{all_scalars}
 
@@ -47,3 +47,8 @@ whole (Some u) = closed u.code u.characters
 -- the characters that the bytes stand for
 abbrev pub unspelled : List ℕ → Option (List ℕ)
 unspelled bytes = whole (with_bytes bytes (Some (record { characters = []; code = None })))
+
+-- whether what one byte more makes was taken
+abbrev pub IsTaken : Option Unspelled → Unspelled → Bool → Type 0
+IsTaken wanted new true = wanted ≡ Some new
+IsTaken wanted new false = wanted ≡ None

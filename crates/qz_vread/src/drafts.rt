@@ -1,5 +1,10 @@
 //! What was read of a module.
 
+ghost use Rattle.std.specs.Prelude.{◌≡◌, MatchOption, Some};
+ghost use Rattle.qz_vread.specs.RightSides.{inputs_of, types_of};
+ghost use Rattle.qz_vread.specs.Drafts.{types_in};
+ghost use Rattle.qz_vread.specs.Drafted.{nothing_read, module_of, IsWhole};
+
 use crate::nets::Nets;
 use crate::ports::Ports;
 use qz_syntax::Name;
@@ -55,7 +60,9 @@ pub(crate) struct Draft {
 
 impl Draft {
     /// Nothing was read.
-    pub fn new(alloc: Global) -> Draft {
+    pub fn new(alloc: Global) -> Draft
+        ensures { result ≡ nothing_read }
+    {
         Draft {
             stage: Stage::Name,
             name: None,
@@ -69,7 +76,10 @@ impl Draft {
     }
 
     /// The nets that are declared.
-    pub fn nets(&self) -> Nets<'_> {
+    pub fn nets(&self) -> Nets<'_>
+        ensures inputs { inputs_of result ≡ self.now.ports.inputs }
+        ensures types { types_of result ≡ types_in self.now }
+    {
         Nets {
             ports: &self.ports,
             regs: self.registers.as_slice(),
@@ -78,7 +88,9 @@ impl Draft {
     }
 
     /// The module, where the last line was read.
-    pub fn whole(self) -> Option<VModule> {
+    pub fn whole(self) -> Option<VModule>
+        ensures { MatchOption result (IsWhole self → ⊥) (λ m. IsWhole self × (m ≡ module_of self)) }
+    {
         let Draft {
             stage,
             name,

@@ -1,13 +1,21 @@
 //! Reading names that are spelled for Verilog.
 
-ghost use Rattle.std.specs.Prelude.{◌≡◌, ◌++◌, string_bytes, OnOk};
-ghost use Rattle.qz_vtext.specs.Names.{character_text};
+ghost use Rattle.std.specs.Prelude.{◌≡◌, ◌↔◌, None, Some, IfOk, IsTrue, MatchOption, string_bytes};
+ghost use Rattle.std.specs.Str.{chars};
+ghost use Rattle.qz_vtext.specs.Names.{name_text};
+ghost use Rattle.qz_vread.specs.Naming.{IsNamed};
+ghost use Rattle.qz_vread.specs.Reading.{Reads};
+ghost use Rattle.qz_vread.specs.Unspelling.{with_byte, with_character, with_digit, closed, unspelled, IsTaken};
 
 use qz_syntax::Name;
+use qz_vtext::push_name;
 use std::alloc::{AllocError, Global};
+use std::marker::Model;
 
 /// The name that the bytes spell. Each name has one spelling.
-pub(crate) fn name(alloc: Global, bytes: &[u8]) -> Result<Option<Name>, AllocError> {
+pub(crate) fn name(alloc: Global, bytes: &[u8]) -> Result<Option<Name>, AllocError>
+    ensures { IfOk result (λ found. Reads IsNamed name_text bytes.now found) }
+{
     let Some(text) = unspelled(alloc, bytes)? else {
         return Ok(None);
     };
@@ -19,23 +27,12 @@ pub(crate) fn name(alloc: Global, bytes: &[u8]) -> Result<Option<Name>, AllocErr
 }
 
 /// Whether the bytes are how the name is spelled.
-fn is_spelling(alloc: Global, name: &Name, bytes: &[u8]) -> Result<bool, AllocError> {
-    let mut spelled = String::new(alloc);
-    for character in name.as_str().chars() {
-        spell(&mut spelled, character)?;
-    }
-    Ok(spelled.as_bytes() == bytes)
-}
-
-/// Appends how the character is spelled.
-fn spell(spelled: &mut String, character: char) -> Result<(), AllocError>
-    ensures { OnOk result (string_bytes spelled.new ≡ string_bytes spelled.old ++ character_text character) }
+fn is_spelling(alloc: Global, name: &Name, bytes: &[u8]) -> Result<bool, AllocError>
+    ensures { IfOk result (λ is_spelling. IsTrue is_spelling ↔ (bytes.now ≡ name_text name.now)) }
 {
-    if character.is_ascii_alphanumeric() || character == '_' {
-        return spelled.push(character);
-    }
-    let code = u32::from(character);
-    write!(spelled, "${code:x}$")
+    let mut spelled = String::new(alloc);
+    push_name(alloc, &mut spelled, name)?;
+    Ok(spelled.as_bytes() == bytes)
 }
 
 /// A text that is unspelled byte by byte.
@@ -46,9 +43,21 @@ struct Unspelling {
     code: Option<u32>,
 }
 
+impl Model for Unspelling {
+    ghost use Rattle.std.specs.Prelude.{string_bytes};
+    ghost use Rattle.std.specs.Str.{chars};
+    ghost use Rattle.qz_vread.specs.Unspelling.{Unspelled};
+
+    ghost Value = { Unspelled };
+
+    ghost view = { λ u. record { characters = chars (string_bytes u.text); code = u.code } };
+}
+
 /// The text that the bytes stand for, if each code between two `$` is a character's. What spells a
 /// name gives the name.
-fn unspelled(alloc: Global, bytes: &[u8]) -> Result<Option<String>, AllocError> {
+fn unspelled(alloc: Global, bytes: &[u8]) -> Result<Option<String>, AllocError>
+    ensures { IfOk result (λ text. MatchOption text (unspelled bytes.now ≡ None) (λ t. unspelled bytes.now ≡ Some (chars (string_bytes t)))) }
+{
     let mut unspelling = Unspelling {
         text: String::new(alloc),
         code: None,
@@ -63,7 +72,9 @@ fn unspelled(alloc: Global, bytes: &[u8]) -> Result<Option<String>, AllocError> 
 
 impl Unspelling {
     /// One byte more. `false` where no spelling goes on so.
-    fn take(&mut self, byte: u8) -> Result<bool, AllocError> {
+    fn take(&mut self, byte: u8) -> Result<bool, AllocError>
+        ensures { IfOk result (λ taken. IsTaken (with_byte self.old.characters self.old.code byte) self.new taken) }
+    {
         match self.code {
             Some(code) if byte == b'$' => self.take_character(code),
             Some(code) => Ok(self.take_digit(code, byte)),
@@ -79,7 +90,9 @@ impl Unspelling {
     }
 
     /// The character with this code.
-    fn take_character(&mut self, code: u32) -> Result<bool, AllocError> {
+    fn take_character(&mut self, code: u32) -> Result<bool, AllocError>
+        ensures { IfOk result (λ taken. IsTaken (with_character self.old.characters code) self.new taken) }
+    {
         let Some(character) = char::from_u32(code) else {
             return Ok(false);
         };
@@ -89,7 +102,9 @@ impl Unspelling {
     }
 
     /// One hexadecimal digit more, after those of `code`.
-    fn take_digit(&mut self, code: u32, byte: u8) -> bool {
+    fn take_digit(&mut self, code: u32, byte: u8) -> bool
+        ensures { IsTaken (with_digit self.old.characters code byte) self.new result }
+    {
         let Some(digit) = char::from(byte).to_digit(16) else {
             return false;
         };
@@ -101,7 +116,9 @@ impl Unspelling {
     }
 
     /// The text, where no code is left open.
-    fn whole(self) -> Option<String> {
+    fn whole(self) -> Option<String>
+        ensures { MatchOption result (closed self.code self.characters ≡ None) (λ text. closed self.code self.characters ≡ Some (chars (string_bytes text))) }
+    {
         if self.code.is_some() {
             None
         } else {

@@ -1,12 +1,11 @@
 //! Reading a module's text.
 
-ghost use Rattle.std.specs.Prelude.{◌≤◌, length, IfOk};
-ghost use Rattle.qz_vtext.specs.Text.{IsTextOf};
+ghost use Rattle.std.specs.Prelude.{◌≤◌, List, ℕ, length};
+ghost use Rattle.qz_vread.specs.Answers.{IsAnswer, IsLast};
 
 use crate::bytes::split_at;
 use crate::drafts::Draft;
-use qz_verilog::{VModule, validate};
-use qz_vtext::write_v;
+use qz_verilog::VModule;
 use std::alloc::{AllocError, Global};
 use thiserror::Error;
 
@@ -36,14 +35,14 @@ impl From<AllocError> for BadVerilog {
 ///
 /// # Errors
 ///
-/// `At` where the bytes are no module's text: the first line that no such text has after the lines
-/// before it. A line that no line feed ends is such a line, and so is one that isn't UTF-8. Where
-/// the text ends too early, it is the number of its lines plus 1.
+/// `At` just where the bytes are no module's text: the first line that no such text has after the
+/// lines before it. A line that no line feed ends is such a line, and so is one that isn't UTF-8.
+/// Where the text ends too early, it is the number of its lines plus 1.
 ///
 /// `Memory` where no memory was left.
 pub fn read_v(alloc: Global, bytes: &[u8]) -> Result<VModule, BadVerilog>
     requires { length bytes.now ≤ 67108864 }
-    ensures { IfOk result (λ m. IsTextOf m bytes.now) }
+    ensures { IsAnswer bytes.now result }
 {
     let mut draft = Draft::new(alloc);
     let mut rest = bytes;
@@ -55,28 +54,18 @@ pub fn read_v(alloc: Global, bytes: &[u8]) -> Result<VModule, BadVerilog>
         rest = later;
         line += 1;
     }
-    let m = whole(draft, rest, line)?;
-    compared(alloc, m, bytes, line)
-}
-
-/// The module, whose text is written again and compared.
-fn compared(alloc: Global, m: VModule, bytes: &[u8], line: u32) -> Result<VModule, BadVerilog>
-    ensures { IfOk result (λ m. IsTextOf m bytes.now) }
-{
-    if !validate(&m) {
-        return Err(BadVerilog::At { line });
-    }
-    let text = write_v(alloc, &m)?;
-    if text.as_slice() != bytes {
-        return Err(BadVerilog::At { line });
-    }
-    Ok(m)
+    whole(draft, rest, line)
 }
 
 /// The module, where nothing follows its last line.
-fn whole(draft: Draft, rest: &[u8], line: u32) -> Result<VModule, BadVerilog> {
+fn whole(draft: Draft, rest: &[u8], line: u32) -> Result<VModule, BadVerilog>
+    ensures { (bytes : List ℕ) → IsLast bytes draft rest.now line → IsAnswer bytes result }
+{
     if !rest.is_empty() {
         return Err(BadVerilog::At { line });
     }
-    draft.whole().ok_or(BadVerilog::At { line })
+    match draft.whole() {
+        Some(m) => Ok(m),
+        None => Err(BadVerilog::At { line }),
+    }
 }

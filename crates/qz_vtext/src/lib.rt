@@ -10,4 +10,5 @@ mod spell;
 mod tests;
 mod write;
 
+pub use spell::push_name;
 pub use write::write_v;

@@ -10,8 +10,12 @@ use qz_syntax::Name;
 use qz_values::{Op2, Ty, Value};
 use std::alloc::{AllocError, Global};
 
-/// A name's characters, each as Verilog takes it.
-pub(crate) fn push_name(alloc: Global, text: &mut String, name: &Name) -> Result<(), AllocError>
+/// Appends how a name is spelled.
+///
+/// # Errors
+///
+/// `AllocError` where no memory was left.
+pub fn push_name(alloc: Global, text: &mut String, name: &Name) -> Result<(), AllocError>
     ensures { OnOk result (string_bytes text.new ≡ string_bytes text.old ++ name_text name.now) }
 {
     let characters = characters(alloc, name)?;
