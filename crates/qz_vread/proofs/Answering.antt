@@ -1,7 +1,6 @@
 -- What is answered once all lines were read.
-use Rattle.std.proofs.Common.{arith, ◌≡◌, ℕ, ◌+◌, ◌^◌, ◌<◌, ◌≤◌, true, false, List, [], ◌∷◌, ◌++◌, length, length-append, Some, refl, sym, ap, ◌∙◌, subst}
+use Rattle.std.proofs.Common.{arith, ◌≡◌, ℕ, ◌+◌, ◌≤◌, true, false, List, [], ◌∷◌, ◌++◌, length, length-append, refl, sym, ap, ◌∙◌, subst}
 use Rattle.qz_verilog.specs.declared.modules.VModule.{VModule}
-use Rattle.qz_verilog.specs.Validity.{port_names}
 use Rattle.qz_vtext.specs.Text.{text_of, lines_of}
 use Rattle.qz_vread.specs.declared.drafts.Draft.{Draft}
 use Rattle.qz_vread.specs.declared.drafts.Stage.{Stage}
@@ -15,7 +14,7 @@ use Rattle.qz_vread.specs.Answers.{IsRead, IsLast}
 use Rattle.qz_vread.proofs.Advancing.{advances}
 use Rattle.qz_vread.proofs.LineFeeds.{lines_are, after_lines}
 use Rattle.qz_vread.proofs.Refusing.{starts, goes_on, refuses, unended, early, ends}
-use Rattle.qz_vread.proofs.Counting.{few_lines, few_ports}
+use Rattle.qz_vread.proofs.Counting.{few_ports}
 
 whole_is : (d : Draft) → IsSound d → d.stage ≡ stage.Nothing → IsWhole d
 whole_is d sound last =

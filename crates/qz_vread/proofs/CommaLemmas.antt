@@ -1,6 +1,5 @@
 -- The lines of the list of ports, with a `,` at their end or none.
 use Rattle.std.proofs.Common.{◌≡◌, ℕ, ◌-◌, Bool, true, false, not, ◌==◌, List, [], ◌∷◌, ◌++◌, refl, inl, inr, sym, ap, ◌∙◌, codes}
-use Rattle.std.specs.Prelude.{◌⊎◌}
 use Rattle.std.specs.Fmt.{decimal}
 use Rattle.std.proofs.lemmas.List.{append_cancel_left, append_cancel_right}
 use Rattle.qz_values.specs.declared.Ty.{Ty}
@@ -13,7 +12,7 @@ use Rattle.qz_vread.specs.declared.drafts.Draft.{Draft}
 use Rattle.qz_vread.specs.declared.drafts.Stage.{Stage}
 use Rattle.qz_vread.specs.declared.drafts.Stage.TheVariants as stages
 use Rattle.qz_vread.specs.Parts.{lacks, NoFront}
-use Rattle.qz_vread.specs.Drafts.{IsComma, with_comma, after_port, IsLine, IsFixed, IsNewInput, IsNewPort, with_input, with_output, IsInputPart, IsOutputPart, IsInputLine, IsOutputLine, IsStepAt, Takes}
+use Rattle.qz_vread.specs.Drafts.{IsComma, with_comma, after_port, IsFixed, IsInputPart, IsOutputPart, IsStepAt, Takes}
 use Rattle.qz_vread.proofs.Words.{all-append, name_words, words_lack}
 use Rattle.qz_vread.proofs.Splitting.{has_it, heads_differ}
 use Rattle.qz_vread.proofs.RightSideLemmas.{decimal_lacks}

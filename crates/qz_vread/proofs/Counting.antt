@@ -9,7 +9,7 @@ use Rattle.qz_vread.specs.declared.drafts.Draft.{Draft}
 use Rattle.qz_vread.specs.declared.drafts.Stage.{Stage}
 use Rattle.qz_vread.specs.declared.drafts.Stage.TheVariants as stage
 use Rattle.qz_vread.specs.Drafts.{with_comma}
-use Rattle.qz_vread.specs.Drafted.{port_texts, with_commas, head_of, nets_of, outs_of, initial_of, clock_of, written_at, written, IsSoundAt, IsSound, HasNoPorts}
+use Rattle.qz_vread.specs.Drafted.{port_texts, head_of, nets_of, outs_of, initial_of, clock_of, written_at, written, IsSoundAt, HasNoPorts}
 use Rattle.qz_vread.specs.Leading.{IsReading}
 
 abbrev ports_of : Draft → List Port
@@ -24,8 +24,13 @@ listed_long first (next ∷ lines) = let more = listed_long next lines in omega 
 
 texts_long : (d : Draft) → length (port_texts d.ports) ≡ length (ports_of d)
 texts_long d =
-    omega (arith, length-append (map input_text d.ports.inputs) (map output_text d.ports.outputs), length-append d.ports.inputs d.ports.outputs,
-    length-map d.ports.inputs input_text, length-map d.ports.outputs output_text)
+    omega (
+      arith,
+      length-append (map input_text d.ports.inputs) (map output_text d.ports.outputs),
+      length-append d.ports.inputs d.ports.outputs,
+      length-map d.ports.inputs input_text,
+      length-map d.ports.outputs output_text,
+    )
 
 head_long : (d : Draft) → length (ports_of d) ≤ length (head_of d)
 head_long d =

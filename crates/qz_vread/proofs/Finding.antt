@@ -1,8 +1,8 @@
 -- What is found, where a part of it was found.
-use Rattle.std.proofs.Common.{◌≡◌, Option, Some, None, refl, sym, ap, ◌∙◌, subst}
+use Rattle.std.proofs.Common.{◌≡◌, Some, None, refl, sym, ap, ◌∙◌, subst}
 use Rattle.qz_verilog.specs.declared.nets.Rhs.{Rhs}
 use Rattle.qz_vread.specs.Reading.{Finds}
-use Rattle.qz_vread.specs.RightSides.{IsMade, Makes}
+use Rattle.qz_vread.specs.RightSides.{Makes}
 
 -- the part that something was made of, which is right and stands there
 pub record Whence {X Y : Type 0} (right stands : X → Type 0) (make : X → Y) (made : Y) : Type 0 where
@@ -33,22 +33,10 @@ a_part {X} {Y} right stands make wanted there x found made whence =
     let is = found.sound x refl in
     let both = made is.0 is.1 in
     just_found wanted there (make x) both.0 both.1
-        (λ y w t. let from = whence y w t in
-        let some : Some x ≡ Some from.part = found.complete from.part from.right_part from.there in
-        let same : x ≡ from.part = cc in
-        ap make same ∙ sym from.is)
-
--- fewer are wanted
-pub fewer_none : {X : Type 0} (right stands wanted : X → Type 0) → Finds right stands None → ((x : X) → wanted x → right x) → Finds wanted stands None
-fewer_none right stands wanted found fewer = record { sound = λ x e. absurd cc; complete = λ x w t. found.complete x (fewer x w) t }
-
-pub fewer_some : {X : Type 0} (right stands wanted : X → Type 0) (x : X) → Finds right stands (Some x) → ((x : X) → wanted x → right x) → wanted x → Finds wanted stands (Some x)
-fewer_some right stands wanted x found fewer w =
-    just_found wanted stands x w (found.sound x refl).1 (λ y v t. let some : Some x ≡ Some y = found.complete y (fewer y v) t in cc)
-
-pub fewer_other : {X : Type 0} (right stands wanted : X → Type 0) (x : X) → Finds right stands (Some x) → ((x : X) → wanted x → right x) → (wanted x → ⊥) → Finds wanted stands None
-fewer_other right stands wanted x found fewer other =
-    nothing_found wanted stands (λ y v t. let some : Some x ≡ Some y = found.complete y (fewer y v) t in let same : y ≡ x = cc in other (subst wanted same v))
+    (λ y w t. let from = whence y w t in
+    let some : Some x ≡ Some from.part = found.complete from.part from.right_part from.there in
+    let same : x ≡ from.part = cc in
+    ap make same ∙ sym from.is)
 
 -- right sides that are made of parts
 pub makes_nothing : {X : Type 0} (right stands : X → Type 0) (make : X → Rhs) → ((x : X) → right x → stands x → ⊥) → Makes right stands make None

@@ -1,27 +1,25 @@
 -- Lines after the list of ports, by how they begin.
-use Rattle.std.proofs.Common.{arith, ◌≡◌, ◌↔◌, ℕ, zero, suc, ◌<◌, IsTrue, Bool, true, false, ◌==◌, List, [], ◌∷◌, ◌++◌, length, Option, Some, None, refl, inl, inr, sym, ap, ◌∙◌, subst, codes}
-use Rattle.std.specs.Prelude.{◌⊎◌, slice_get}
-use Rattle.std.specs.Fmt.{decimal}
+use Rattle.std.proofs.Common.{arith, ◌≡◌, ◌↔◌, ℕ, zero, suc, ◌<◌, IsTrue, Bool, true, false, ◌==◌, List, [], ◌∷◌, ◌++◌, length, Option, Some, None, refl, inl, inr, sym, ap, ◌∙◌, codes}
+use Rattle.std.specs.Prelude.{slice_get}
 use Rattle.std.specs.Option.{option_map}
 use Rattle.std.proofs.lemmas.Bool.{both_ways}
 use Rattle.std.proofs.lemmas.List.{append_cancel_left, append_cancel_right}
 use Rattle.qz_values.specs.declared.Ty.{Ty}
-use Rattle.qz_values.specs.Types.{IsType}
 use Rattle.qz_syntax.specs.declared.declarations.Port.{Port}
 use Rattle.qz_verilog.specs.declared.nets.Ref.{Ref}
 use Rattle.qz_verilog.specs.Types.{NetTypes}
 use Rattle.qz_verilog.specs.Validity.{IsNetOf}
 use Rattle.qz_vtext.specs.Names.{name_text}
-use Rattle.qz_vtext.specs.Spelling.{type_text, net_text, port_text}
+use Rattle.qz_vtext.specs.Spelling.{net_text, port_text}
 use Rattle.qz_vtext.specs.Lines.{output_line}
 use Rattle.qz_vread.specs.declared.drafts.Draft.{Draft}
-use Rattle.qz_vread.specs.Parts.{lacks, IsSplit, NoFront}
-use Rattle.qz_vread.specs.Reading.{Finds, Reads}
-use Rattle.qz_vread.specs.Drafts.{IsLine, IsNewRegister, IsRegisterPart, IsWirePart, IsDriven, IsOutputOf, IsOutputStep, IsAfterWires, IsNetStep, Takes}
-use Rattle.qz_vread.proofs.Splitting.{has_it, split_once, heads_differ}
+use Rattle.qz_vread.specs.Parts.{IsSplit}
+use Rattle.qz_vread.specs.Reading.{Reads}
+use Rattle.qz_vread.specs.Drafts.{IsRegisterPart, IsWirePart, IsOutputOf, IsOutputStep, IsNetStep, Takes}
+use Rattle.qz_vread.proofs.Splitting.{split_once, heads_differ}
 use Rattle.qz_vread.proofs.Words.{name_words, words_lack}
-use Rattle.qz_vread.proofs.Finding.{nothing_found, fewer_none, fewer_some}
-use Rattle.qz_vread.proofs.Taking.{takes_same, takes_nothing, wrapped}
+use Rattle.qz_vread.proofs.Finding.{nothing_found}
+use Rattle.qz_vread.proofs.Taking.{takes_same, wrapped}
 
 -- a line after the wires begins neither as a register's nor as a wire's
 record Front (line : List ℕ) : Type 0 where
@@ -64,32 +62,6 @@ wire_taken old new line text taken front takes = takes_same (IsWirePart old text
         let f = output_front old line d step.output in
         absurd (heads_differ f.third 119 _ _ f.no_w (append_cancel_left (codes "  ") _ _ (sym f.is ∙ front)))
 
-pub driven_taken : (old new : Draft) (line : List ℕ) (taken : Bool) → NoFront line (codes "  reg ") → NoFront line (codes "  wire ") → IsDriven old → Takes (IsOutputStep old line) new taken
-    → Takes (IsNetStep old line) new taken
-driven_taken old new line taken no_reg no_wire driven takes = takes_same (IsOutputStep old line) (IsNetStep old line) new taken takes to back
-  where
-    to : (d : Draft) → IsOutputStep old line d → IsNetStep old line d
-    to d step = inr (inr (record { driven = driven; output = step }))
-
-    back : (d : Draft) → IsNetStep old line d → IsOutputStep old line d
-    back d (inl step) = absurd (no_reg _ step.is)
-    back d (inr (inl step)) = absurd (no_wire _ step.is)
-    back d (inr (inr step)) = step.output
-
-pub undriven : (old new : Draft) (line : List ℕ) → NoFront line (codes "  reg ") → NoFront line (codes "  wire ") → (IsDriven old → ⊥) → Takes (IsNetStep old line) new false
-undriven old new line no_reg no_wire other = takes_nothing (IsNetStep old line) new none
-  where
-    none : (d : Draft) → IsNetStep old line d → ⊥
-    none d (inl step) = no_reg _ step.is
-    none d (inr (inl step)) = no_wire _ step.is
-    none d (inr (inr step)) = other step.driven
-
--- a register before the wires
-pub register_read : (old : Draft) (stands : Ty → Type 0) (found : Option Ty) → old.wires ≡ [] → Finds IsType stands found → Finds (IsNewRegister old) stands found
-register_read old stands None first read = fewer_none IsType stands (IsNewRegister old) read (λ t new. new.typed)
-register_read old stands (Some t) first read =
-    fewer_some IsType stands (IsNewRegister old) t read (λ t new. new.typed) (record { typed = (read.sound t refl).0; first = first })
-
 -- by whether there is one more
 pub some_case : {A : Type 0} (f : A → Ty) (P : Option A → Type 0) (o : Option A) (t : Ty) → Some t ≡ option_map f o → ((x : A) → o ≡ Some x → f x ≡ t → P (Some x)) → P o
 some_case f P None t e more = absurd cc
@@ -118,15 +90,6 @@ Drives types inputs t port line found = Reads (IsNetOf types t) (output_line inp
 no_driver : (types : NetTypes) (inputs : List Port) (t : Ty) (port : Port) (line : List ℕ) → ((r : Ref) → line ≡ output_line inputs port r → ⊥) → Drives types inputs t port line None
 no_driver types inputs t port line none = nothing_found (IsNetOf types t) (λ r. line ≡ output_line inputs port r) (λ r right e. none r e)
 
-pub driver_no_front : (types : NetTypes) (inputs : List Port) (t : Ty) (port : Port) (line : List ℕ) → NoFront line (codes "  assign o_") → Drives types inputs t port line None
-driver_no_front types inputs t port line none = no_driver types inputs t port line (λ r e. none _ e)
-
-pub driver_uncut : (types : NetTypes) (inputs : List Port) (t : Ty) (port : Port) (line text : List ℕ) → line ≡ codes "  assign o_" ++ text → lacks 32 text ≡ true
-    → Drives types inputs t port line None
-driver_uncut types inputs t port line text front none =
-    no_driver types inputs t port line
-        (λ r e. has_it 32 (name_text port.name) (codes "= " ++ (net_text inputs r ++ codes ";")) (ap (lacks 32) (sym (append_cancel_left (codes "  assign o_") text _ (sym front ∙ e))) ∙ none))
-
 pub driver_other : (types : NetTypes) (inputs : List Port) (t : Ty) (port : Port) (line text spelled rest : List ℕ) → line ≡ codes "  assign o_" ++ text → IsSplit 32 text spelled rest
     → (spelled ≡ name_text port.name → ⊥) → Drives types inputs t port line None
 driver_other types inputs t port line text spelled rest front split other =
@@ -149,9 +112,9 @@ driver_read types inputs t port line text spelled rest inner found front split n
     once : (a b : List ℕ) → driving port a ≡ driving port b → a ≡ b
     once a b e =
         append_cancel_right a b (codes ";")
-            (append_cancel_left (codes " = ") (a ++ codes ";") (b ++ codes ";")
-            (append_cancel_left (name_text port.name) (codes " = " ++ (a ++ codes ";")) (codes " = " ++ (b ++ codes ";"))
-            (append_cancel_left (codes "  assign o_") (name_text port.name ++ (codes " = " ++ (a ++ codes ";"))) (name_text port.name ++ (codes " = " ++ (b ++ codes ";"))) e)))
+        (append_cancel_left (codes " = ") (a ++ codes ";") (b ++ codes ";")
+        (append_cancel_left (name_text port.name) (codes " = " ++ (a ++ codes ";")) (codes " = " ++ (b ++ codes ";"))
+        (append_cancel_left (codes "  assign o_") (name_text port.name ++ (codes " = " ++ (a ++ codes ";"))) (name_text port.name ++ (codes " = " ++ (b ++ codes ";"))) e)))
 
     whole : line ≡ driving port inner
     whole = front ∙ ap (λ x. codes "  assign o_" ++ x) (split.whole ∙ ap (λ x. x ++ 32 ∷ rest) name ∙ ap (λ x. name_text port.name ++ 32 ∷ x) closed)

@@ -1,5 +1,5 @@
 -- What is read of bytes that may be a net.
-use Rattle.std.proofs.Common.{arith, ◌≡◌, ℕ, zero, suc, ◌<◌, ◌≤◌, ◌^◌, Bool, true, false, List, [], ◌∷◌, ◌++◌, length, map, Option, Some, None, IsSome, is_some, refl, sym, ap, ◌∙◌, codes}
+use Rattle.std.proofs.Common.{arith, ◌≡◌, ℕ, zero, suc, ◌<◌, List, [], ◌∷◌, ◌++◌, length, map, Some, None, IsSome, refl, sym, ap, ◌∙◌, codes}
 use Rattle.std.specs.Prelude.{slice_get}
 use Rattle.std.specs.Fmt.{decimal}
 use Rattle.std.proofs.lemmas.Bool.{false≢true}
@@ -10,14 +10,12 @@ use Rattle.qz_syntax.specs.declared.declarations.Port.{Port}
 use Rattle.qz_verilog.specs.declared.nets.Ref.{Ref}
 use Rattle.qz_verilog.specs.declared.nets.Ref.TheVariants as net
 use Rattle.qz_verilog.specs.declared.nets.Rhs.{Rhs}
-use Rattle.qz_verilog.specs.Types.{NetTypes, net_type, right_side_type}
-use Rattle.qz_verilog.specs.Validity.{port_types, register_types, wire_types, declared_types, IsNetOf}
-use Rattle.qz_vtext.specs.Spelling.{net_text, port_text, right_side_text}
-use Rattle.qz_vread.specs.Parts.{NoFront}
+use Rattle.qz_verilog.specs.Validity.{declared_types}
+use Rattle.qz_vtext.specs.Spelling.{net_text, port_text}
 use Rattle.qz_vread.specs.Reading.{Finds, Reads}
-use Rattle.qz_vread.specs.RightSides.{IsDeclared, ReadsForm}
+use Rattle.qz_vread.specs.RightSides.{IsDeclared}
 use Rattle.qz_vread.proofs.Splitting.{heads_differ}
-use Rattle.qz_vread.proofs.Finding.{Whence, nothing_found, no_part, a_part, fewer_none, fewer_some, fewer_other}
+use Rattle.qz_vread.proofs.Finding.{Whence, no_part, a_part}
 
 there_is : {A : Type 0} (f : A → Ty) (xs : List A) (k : ℕ) → k < length xs → IsSome (slice_get (map f xs) k)
 there_is f [] k below = absurd (omega arith)
@@ -39,18 +37,12 @@ input_whence inputs regs wires bytes text whole (net.Input n) is e =
 input_whence inputs regs wires bytes text whole (net.Reg n) is e = absurd (heads_differ 105 114 _ _ refl (sym whole ∙ e))
 input_whence inputs regs wires bytes text whole (net.Wire n) is e = absurd (heads_differ 105 119 _ _ refl (sym whole ∙ e))
 
-pub no_input_net : (inputs : List Port) (regs : List Value) (wires : List (Ty × Rhs)) (bytes text : List ℕ) → bytes ≡ codes "i_" ++ text
-    → Finds (λ n. n < length inputs) (λ n. text ≡ port_text inputs n) None → Reads (DeclaredIn inputs regs wires) (net_text inputs) bytes None
-no_input_net inputs regs wires bytes text whole found =
-    no_part (λ n. n < length inputs) (λ n. text ≡ port_text inputs n) (λ n. net.Input n) (DeclaredIn inputs regs wires) (λ r. bytes ≡ net_text inputs r) found
-        (input_whence inputs regs wires bytes text whole)
-
 pub an_input_net : (inputs : List Port) (regs : List Value) (wires : List (Ty × Rhs)) (bytes text : List ℕ) (n : ℕ) → bytes ≡ codes "i_" ++ text
     → Finds (λ n. n < length inputs) (λ n. text ≡ port_text inputs n) (Some n) → Reads (DeclaredIn inputs regs wires) (net_text inputs) bytes (Some (net.Input n))
 an_input_net inputs regs wires bytes text n whole found =
     a_part (λ n. n < length inputs) (λ n. text ≡ port_text inputs n) (λ n. net.Input n) (DeclaredIn inputs regs wires) (λ r. bytes ≡ net_text inputs r) n found
-        (λ below is. (record { some = there_is (λ (p : Port). p.ty) inputs n below }, whole ∙ ap (λ t. codes "i_" ++ t) is))
-        (input_whence inputs regs wires bytes text whole)
+    (λ below is. (record { some = there_is (λ (p : Port). p.ty) inputs n below }, whole ∙ ap (λ t. codes "i_" ++ t) is))
+    (input_whence inputs regs wires bytes text whole)
 
 register_whence : (inputs : List Port) (regs : List Value) (wires : List (Ty × Rhs)) (bytes text : List ℕ) → bytes ≡ codes "r_" ++ text
     → (r : Ref) → DeclaredIn inputs regs wires r → bytes ≡ net_text inputs r → Whence (λ n. n < length regs) (λ n. text ≡ decimal n) (λ n. net.Reg n) r
@@ -63,14 +55,14 @@ pub no_register_net : (inputs : List Port) (regs : List Value) (wires : List (Ty
     → Reads (λ n. n < length regs) decimal text None → Reads (DeclaredIn inputs regs wires) (net_text inputs) bytes None
 no_register_net inputs regs wires bytes text whole found =
     no_part (λ n. n < length regs) (λ n. text ≡ decimal n) (λ n. net.Reg n) (DeclaredIn inputs regs wires) (λ r. bytes ≡ net_text inputs r) found
-        (register_whence inputs regs wires bytes text whole)
+    (register_whence inputs regs wires bytes text whole)
 
 pub a_register_net : (inputs : List Port) (regs : List Value) (wires : List (Ty × Rhs)) (bytes text : List ℕ) (n : ℕ) → bytes ≡ codes "r_" ++ text
     → Reads (λ n. n < length regs) decimal text (Some n) → Reads (DeclaredIn inputs regs wires) (net_text inputs) bytes (Some (net.Reg n))
 a_register_net inputs regs wires bytes text n whole found =
     a_part (λ n. n < length regs) (λ n. text ≡ decimal n) (λ n. net.Reg n) (DeclaredIn inputs regs wires) (λ r. bytes ≡ net_text inputs r) n found
-        (λ below is. (record { some = there_is type_of regs n below }, whole ∙ ap (λ t. codes "r_" ++ t) is))
-        (register_whence inputs regs wires bytes text whole)
+    (λ below is. (record { some = there_is type_of regs n below }, whole ∙ ap (λ t. codes "r_" ++ t) is))
+    (register_whence inputs regs wires bytes text whole)
 
 wire_whence : (inputs : List Port) (regs : List Value) (wires : List (Ty × Rhs)) (bytes text : List ℕ) → bytes ≡ codes "w_" ++ text
     → (r : Ref) → DeclaredIn inputs regs wires r → bytes ≡ net_text inputs r → Whence (λ n. n < length wires) (λ n. text ≡ decimal n) (λ n. net.Wire n) r
@@ -83,48 +75,11 @@ pub no_wire_net : (inputs : List Port) (regs : List Value) (wires : List (Ty × 
     → Reads (λ n. n < length wires) decimal text None → Reads (DeclaredIn inputs regs wires) (net_text inputs) bytes None
 no_wire_net inputs regs wires bytes text whole found =
     no_part (λ n. n < length wires) (λ n. text ≡ decimal n) (λ n. net.Wire n) (DeclaredIn inputs regs wires) (λ r. bytes ≡ net_text inputs r) found
-        (wire_whence inputs regs wires bytes text whole)
+    (wire_whence inputs regs wires bytes text whole)
 
 pub a_wire_net : (inputs : List Port) (regs : List Value) (wires : List (Ty × Rhs)) (bytes text : List ℕ) (n : ℕ) → bytes ≡ codes "w_" ++ text
     → Reads (λ n. n < length wires) decimal text (Some n) → Reads (DeclaredIn inputs regs wires) (net_text inputs) bytes (Some (net.Wire n))
 a_wire_net inputs regs wires bytes text n whole found =
     a_part (λ n. n < length wires) (λ n. text ≡ decimal n) (λ n. net.Wire n) (DeclaredIn inputs regs wires) (λ r. bytes ≡ net_text inputs r) n found
-        (λ below is. (record { some = there_is (λ (w : Ty × Rhs). w.0) wires n below }, whole ∙ ap (λ t. codes "w_" ++ t) is))
-        (wire_whence inputs regs wires bytes text whole)
-
--- bytes that no net's letter stands in front of
-pub no_net : (types : NetTypes) (inputs : List Port) (bytes : List ℕ) → NoFront bytes (codes "i_") → NoFront bytes (codes "r_") → NoFront bytes (codes "w_")
-    → Reads (IsDeclared types) (net_text inputs) bytes None
-no_net types inputs bytes no_i no_r no_w = nothing_found (IsDeclared types) (λ r. bytes ≡ net_text inputs r) none
-  where
-    none : (r : Ref) → IsDeclared types r → bytes ≡ net_text inputs r → ⊥
-    none (net.Input n) is e = no_i (port_text inputs n) e
-    none (net.Reg n) is e = no_r (decimal n) e
-    none (net.Wire n) is e = no_w (decimal n) e
-
--- a net of a type is declared
-pub of_type : (types : NetTypes) (t : Ty) (r : Ref) → IsNetOf types t r → IsDeclared types r
-of_type types t r e = record { some = ap is_some e }
-
--- numbers below a limit
-pub below_word : (limit n : ℕ) → limit ≤ 2 ^ 64 → n < limit → n < 2 ^ 64
-below_word limit n small below = omega arith
-
--- a right side of a type
-pub typed_none : (types : NetTypes) (inputs : List Port) (t : Ty) (bytes : List ℕ) → ReadsForm types inputs t bytes None
-    → Reads (λ right. right_side_type types right ≡ Some t) (right_side_text inputs) bytes None
-typed_none types inputs t bytes form = record { sound = λ r e. absurd cc; complete = λ r typed e. form.complete r typed e }
-
-pub typed_some : (types : NetTypes) (inputs : List Port) (t : Ty) (bytes : List ℕ) (right : Rhs) → ReadsForm types inputs t bytes (Some right) → right_side_type types right ≡ Some t
-    → Reads (λ right. right_side_type types right ≡ Some t) (right_side_text inputs) bytes (Some right)
-typed_some types inputs t bytes right form typed = record {
-  sound = λ r e. let same : right ≡ r = cc in (ap (right_side_type types) (sym same) ∙ typed, form.sound r e);
-  complete = λ r typed e. form.complete r typed e;
-}
-
-pub typed_other : (types : NetTypes) (inputs : List Port) (t : Ty) (bytes : List ℕ) (right : Rhs) → ReadsForm types inputs t bytes (Some right) → (right_side_type types right ≡ Some t → ⊥)
-    → Reads (λ right. right_side_type types right ≡ Some t) (right_side_text inputs) bytes None
-typed_other types inputs t bytes right form other = record {
-  sound = λ r e. absurd cc;
-  complete = λ r typed e. absurd (let some : Some right ≡ Some r = form.complete r typed e in let same : right ≡ r = cc in other (ap (right_side_type types) same ∙ typed));
-}
+    (λ below is. (record { some = there_is (λ (w : Ty × Rhs). w.0) wires n below }, whole ∙ ap (λ t. codes "w_" ++ t) is))
+    (wire_whence inputs regs wires bytes text whole)

@@ -1,15 +1,15 @@
 -- What is read before what is declared.
-use Rattle.std.proofs.Common.{◌≡◌, ℕ, ◌+◌, ◌-◌, ◌<◌, ◌≤◌, ◌^◌, true, List, [], ◌∷◌, ◌++◌, Option, Some, None, refl, sym, ap, ◌∙◌, arith, codes, append_assoc}
+use Rattle.std.proofs.Common.{◌≡◌, ℕ, ◌+◌, ◌-◌, ◌<◌, ◌≤◌, List, ◌++◌, refl, sym, ap, ◌∙◌, arith, codes, append_assoc}
 use Rattle.std.specs.Fmt.{decimal}
 use Rattle.std.proofs.lemmas.List.{append_cancel_left}
 use Rattle.qz_values.specs.declared.Ty.{Ty}
 use Rattle.qz_values.specs.declared.Ty.TheVariants as ty
 use Rattle.qz_values.specs.Types.{IsType}
 use Rattle.qz_vtext.specs.Spelling.{type_text}
-use Rattle.qz_vread.specs.Parts.{lacks, IsSplit, NoFront}
-use Rattle.qz_vread.specs.Reading.{Reads, IsTyped, IsUntyped, HasType, IsRange, IsNoRange}
+use Rattle.qz_vread.specs.Parts.{IsSplit, NoFront}
+use Rattle.qz_vread.specs.Reading.{IsTyped, IsUntyped, HasType, IsRange, IsNoRange}
 use Rattle.qz_vread.proofs.Decimals.{decimal_once}
-use Rattle.qz_vread.proofs.Splitting.{has_it, split_once}
+use Rattle.qz_vread.proofs.Splitting.{split_once}
 use Rattle.qz_vread.proofs.RightSideLemmas.{decimal_lacks}
 
 -- a range is cut at its first `:`
@@ -18,20 +18,6 @@ pub range_cut : (bytes high after : List ℕ) → IsSplit 58 bytes high after �
 range_cut bytes high after split t rest r =
     let cut = split_once 58 high (decimal r.high) after (codes "0] " ++ rest) split.first (decimal_lacks 58 r.high refl) (sym split.whole ∙ r.whole) in
     (cut.before, cut.after)
-
--- without a `:` there is no range
-pub uncut : (bytes : List ℕ) → lacks 58 bytes ≡ true → IsNoRange bytes
-uncut bytes lacked t rest r = has_it 58 (decimal r.high) (codes "0] " ++ rest) (ap (lacks 58) (sym r.whole) ∙ lacked)
-
--- a range that was read
-pub range_read : (bytes high after rest : List ℕ) (number : ℕ) → IsSplit 58 bytes high after → number < 64 → high ≡ decimal number → after ≡ codes "0] " ++ rest
-    → IsRange bytes (ty.Bv (number + 1)) rest
-range_read bytes high after rest number split small digits end = record {
-  high = number;
-  below = small;
-  vector = refl;
-  whole = split.whole ∙ ap (λ h. h ++ 58 ∷ after) digits ∙ ap (λ a. decimal number ++ 58 ∷ a) end;
-}
 
 pub range_once : (bytes : List ℕ) (t u : Ty) (rest other : List ℕ) → IsRange bytes t rest → IsRange bytes u other → (u ≡ t) × (other ≡ rest)
 range_once bytes t u rest other r s =
@@ -51,7 +37,7 @@ ranged bytes range bracket (ty.Bv w) rest typed =
       vector = ap ty.Bv (omega arith);
       whole =
           append_cancel_left (codes "[") range _
-              (sym bracket ∙ typed.whole ∙ ap (λ bs. codes "[" ++ bs) (append_assoc (decimal (w - 1)) (codes ":0] ") rest));
+          (sym bracket ∙ typed.whole ∙ ap (λ bs. codes "[" ++ bs) (append_assoc (decimal (w - 1)) (codes ":0] ") rest));
     }
 
 pub range_typed : (bytes range : List ℕ) (t : Ty) (rest : List ℕ) → bytes ≡ codes "[" ++ range → IsRange range t rest → HasType bytes t rest
@@ -72,18 +58,6 @@ range_typed bytes range t rest bracket r = record {
 
 pub unranged : (bytes range : List ℕ) → bytes ≡ codes "[" ++ range → IsNoRange range → IsUntyped bytes
 unranged bytes range bracket none t rest typed = none t rest (ranged bytes range bracket t rest typed)
-
--- without a `[` in front it is a bool
-pub bool_typed : (bytes : List ℕ) → NoFront bytes (codes "[") → HasType bytes ty.Bool bytes
-bool_typed bytes closed = record {
-  typed = record { at_least_1 = omega arith; at_most_64 = omega arith };
-  whole = refl;
-  only = only;
-}
-  where
-    only : (u : Ty) (other : List ℕ) → IsTyped bytes u other → (u ≡ ty.Bool) × (other ≡ bytes)
-    only ty.Bool other typed = (refl, sym typed.whole)
-    only (ty.Bv w) other typed = absurd (closed _ typed.whole)
 
 -- no range is cut to what is no number of a bit
 pub no_high : (bytes high after : List ℕ) → IsSplit 58 bytes high after → ((n : ℕ) → n < 64 → high ≡ decimal n → ⊥) → IsNoRange bytes

@@ -32,7 +32,7 @@ same_test a b x y = by (bytes_eq b a) refl
     by true e = (bytes_eq-Decides (name_text a) (name_text b)).1 (ap name_text (sym ((bytes_eq-Decides b a).0 e))) ∙ sym e
     by false e =
         false_from_ne_true (bytes_eq (name_text a) (name_text b))
-            (λ same. both_ways (bytes_eq b a) e ((bytes_eq-Decides b a).1 (sym (spelled_once a b x y ((bytes_eq-Decides (name_text a) (name_text b)).0 same)))))
+        (λ same. both_ways (bytes_eq b a) e ((bytes_eq-Decides b a).1 (sym (spelled_once a b x y ((bytes_eq-Decides (name_text a) (name_text b)).0 same)))))
         ∙ sym e
 
 -- a name is among names where its spelling is among theirs
@@ -69,9 +69,9 @@ found_at (first ∷ names) name i zero are apart is e =
 found_at (first ∷ names) name i (suc k) are apart is e =
     let parts = and_parts (not (is_among names first)) (are_distinct names) apart in
     cond-false (bytes_eq (name_text name) (name_text first)) (Some i) _
-        (false_from_ne_true (bytes_eq (name_text name) (name_text first)) (λ t.
-        both_ways (is_among names first) (not-true (is_among names first) parts.0)
-        (among_at names k first name (spelled_once name first is are.0 ((bytes_eq-Decides (name_text name) (name_text first)).0 t)) e)))
+    (false_from_ne_true (bytes_eq (name_text name) (name_text first)) (λ t.
+    both_ways (is_among names first) (not-true (is_among names first) parts.0)
+    (among_at names k first name (spelled_once name first is are.0 ((bytes_eq-Decides (name_text name) (name_text first)).0 t)) e)))
     ∙ found_at names name (i + 1) k are.1 parts.1 is e
     ∙ ap (λ n. Some n) (omega arith)
 
@@ -211,11 +211,11 @@ pub key_pushed : (keys new : List (Vec ℕ)) (key : Vec ℕ) (ports : List Port)
     → new ≡ keys ++ key ∷ []
 key_pushed keys new key ports name are named fresh is e =
     e ∙ cond-false (list_any (λ (k : Vec ℕ). bytes_eq key.items k.items) keys) keys (keys ++ key ∷ [])
-        (any_map (λ (k : Vec ℕ). k.items) (bytes_eq key.items) keys
-        ∙ ap (list_any (bytes_eq key.items)) are.texts
-        ∙ ap (λ t. list_any (bytes_eq t) (map name_text (port_names ports))) is
-        ∙ among_spelled (port_names ports) name are.named named
-        ∙ fresh)
+    (any_map (λ (k : Vec ℕ). k.items) (bytes_eq key.items) keys
+    ∙ ap (list_any (bytes_eq key.items)) are.texts
+    ∙ ap (λ t. list_any (bytes_eq t) (map name_text (port_names ports))) is
+    ∙ among_spelled (port_names ports) name are.named named
+    ∙ fresh)
 
 pub key_texts : (keys new : List (Vec ℕ)) (key : Vec ℕ) (name : List ℕ) → key.items ≡ name_text name → new ≡ keys ++ key ∷ []
     → map (λ (k : Vec ℕ). k.items) new ≡ map (λ (k : Vec ℕ). k.items) keys ++ name_text name ∷ []

@@ -1,12 +1,12 @@
 -- Whether a line is taken, by what was read of it.
-use Rattle.std.proofs.Common.{◌≡◌, ℕ, Bool, true, false, List, [], ◌∷◌, ◌++◌, Option, Some, None, Result, Ok, Err, refl, sym, ap, ◌∙◌, subst, codes}
-use Rattle.std.specs.Prelude.{IfOk, ◌⊎◌}
+use Rattle.std.proofs.Common.{◌≡◌, ℕ, Bool, true, false, List, ◌++◌, Option, Some, None, Result, Ok, Err, refl, sym, ap, ◌∙◌, subst, codes}
+use Rattle.std.specs.Prelude.{IfOk}
 use Rattle.std.specs.Fmt.{decimal}
 use Rattle.std.proofs.lemmas.Bool.{false≢true}
 use Rattle.std.proofs.lemmas.List.{append_cancel_left, append_cancel_right}
 use Rattle.qz_vread.specs.declared.drafts.Draft.{Draft}
-use Rattle.qz_vread.specs.Reading.{Finds, Reads, numbered_line}
-use Rattle.qz_vread.specs.Drafts.{IsLine, IsFixed, Takes}
+use Rattle.qz_vread.specs.Reading.{Reads, numbered_line}
+use Rattle.qz_vread.specs.Drafts.{IsLine, Takes}
 
 pub takes_nothing : (leads : Draft → Type 0) (new : Draft) → ((other : Draft) → leads other → ⊥) → Takes leads new false
 takes_nothing leads new none = record { sound = λ e. absurd (false≢true e); complete = λ other step. absurd (none other step) }
@@ -53,8 +53,8 @@ between_once before after a b e = append_cancel_right a b after (append_cancel_l
 pub numbered_once : (before : List ℕ) (n : ℕ) (after a b : List ℕ) → numbered_line before n after a ≡ numbered_line before n after b → a ≡ b
 numbered_once before n after a b e =
     between_once after (codes ";") a b
-        (append_cancel_left (codes " ") (after ++ (a ++ codes ";")) (after ++ (b ++ codes ";"))
-        (append_cancel_left (decimal n) _ _ (append_cancel_left before _ _ e)))
+    (append_cancel_left (codes " ") (after ++ (a ++ codes ";")) (after ++ (b ++ codes ";"))
+    (append_cancel_left (decimal n) _ _ (append_cancel_left before _ _ e)))
 
 pub takes_at : {X : Type 0} (right : X → Type 0) (text : X → List ℕ) (next : X → Draft) (line : List ℕ) (x : X) (new : Draft) → Reads right text line (Some x) → new ≡ next x
     → Takes (IsLine right text next line) new true

@@ -1,5 +1,5 @@
 -- The types of declared nets, gathered one by one.
-use Rattle.std.proofs.Common.{arith, ◌≡◌, ◌↔◌, ℕ, zero, suc, ◌+◌, ◌<◌, ◌≤◌, Bool, true, false, ◌||◌, List, [], ◌∷◌, ◌++◌, length, map, take, take_all, replicate, get_or, Option, Some, None, IsTrue, refl, inl, inr, sym, ap, ◌∙◌}
+use Rattle.std.proofs.Common.{◌≡◌, ◌↔◌, ℕ, zero, suc, ◌+◌, ◌<◌, ◌≤◌, Bool, true, false, ◌||◌, List, [], ◌∷◌, ◌++◌, length, map, take, take_all, replicate, get_or, Some, IsTrue, refl, inl, inr, sym, ap, ◌∙◌}
 use Rattle.std.specs.Prelude.{slice_get, ◌⊎◌}
 use Rattle.std.specs.List.{AllByRecursion, list_any, list_all}
 use Rattle.std.proofs.lemmas.Bool.{or_cases, or_left, or_right, false≢true}
@@ -7,13 +7,10 @@ use Rattle.std.proofs.lemmas.List.{take_more, map-append}
 use Rattle.std.proofs.lemmas.List.Folds.{list_any-append}
 use Rattle.qz_values.specs.declared.Ty.{Ty}
 use Rattle.qz_values.specs.declared.Ty.TheVariants as ty
-use Rattle.qz_values.specs.declared.Value.{Value}
 use Rattle.qz_values.specs.Types.{is_same_type}
 use Rattle.qz_values.proofs.Typed.{same-is_same_type, is_same_type-self}
-use Rattle.qz_syntax.specs.declared.declarations.Port.{Port}
 use Rattle.qz_verilog.specs.declared.nets.Ref.{Ref}
 use Rattle.qz_verilog.specs.declared.nets.Ref.TheVariants as net
-use Rattle.qz_verilog.specs.declared.nets.Rhs.{Rhs}
 use Rattle.qz_verilog.specs.Types.{NetTypes, net_type}
 use Rattle.qz_verilog.proofs.ValidityLemmas.{all_pass}
 use Rattle.qz_vread.specs.declared.driven.TypeSet.{TypeSet}
@@ -103,7 +100,7 @@ pub gathered : (ins regs wires : List Ty) (a b c d : TypeSet) → Adds a b ins �
 gathered ins regs wires a b c d one two three none t =
     three t
     ∙ ap (λ x. x || list_any (λ u. is_same_type t u) wires)
-        (two t ∙ ap (λ x. x || list_any (λ u. is_same_type t u) regs) (one t ∙ ap (λ x. x || list_any (λ u. is_same_type t u) ins) (none t)))
+    (two t ∙ ap (λ x. x || list_any (λ u. is_same_type t u) regs) (one t ∙ ap (λ x. x || list_any (λ u. is_same_type t u) ins) (none t)))
 
 none_among : (n k : ℕ) → get_or (replicate n false) k false ≡ false
 none_among zero k = refl

@@ -1,5 +1,5 @@
 -- Inputs and outputs.
-use Rattle.std.specs.Prelude.{◌≡◌, true, List, [], ◌++◌, ℕ, map}
+use Rattle.std.specs.Prelude.{◌≡◌, true, List, [], ℕ, map}
 use Rattle.std.specs.List.{AllByRecursion}
 use Rattle.qz_syntax.specs.declared.declarations.Port.{Port}
 use Rattle.qz_syntax.specs.DoubleNames.{are_distinct}

@@ -91,12 +91,7 @@ impl Ports {
 
     /// One input more, before there are outputs. No port has its name. Nothing changes where no memory
     /// was left.
-    pub fn add_input(
-        &mut self,
-        alloc: Global,
-        port: Port,
-        spelled: &[u8],
-    ) -> Result<(), AllocError>
+    pub fn add_input(&mut self, alloc: Global, port: Port, spelled: &[u8]) -> Result<(), AllocError>
         requires named { IsNamed port.name }
         requires new { is_among (port_names (self.old.inputs ++ self.old.outputs)) port.name ≡ false }
         requires spelled { spelled.now ≡ name_text port.name }

@@ -1,4 +1,4 @@
-use Rattle.std.proofs.Common.{◌≡◌, ℕ, suc, ◌+◌, ◌-◌, ◌<◌, ◌≤◌, Bool, true, not, ◌&&◌, ◌==◌, List, ◌∷◌, ◌++◌, length, take, drop, get_or, refl, sym, ap, ◌∙◌, drop-cons, add-one, take-append-drop, take_all, length-drop, arith}
+use Rattle.std.proofs.Common.{◌≡◌, ℕ, suc, ◌+◌, ◌-◌, ◌<◌, true, not, ◌==◌, List, ◌∷◌, ◌++◌, length, take, drop, get_or, sym, ap, ◌∙◌, drop-cons, add-one, take-append-drop, take_all, length-drop, arith}
 use Rattle.std.proofs.lemmas.Bool.{and_from, not_from_false, false_from_ne_true, eqb-true}
 use Rattle.std.proofs.lemmas.List.Folds.{list_all_more}
 use Rattle.qz_vread.specs.Parts.{lacks, IsSplit}
@@ -18,7 +18,7 @@ one_more : (mark : ℕ) (bytes : List ℕ) (at : ℕ) → at < length bytes → 
 one_more mark bytes at below other so_far =
     list_all_more (λ byte. not (byte == mark)) bytes at 0 below
     ∙ and_from (lacks mark (take at bytes)) (not (get_or bytes at 0 == mark)) so_far
-        (not_from_false (get_or bytes at 0 == mark) (false_from_ne_true (get_or bytes at 0 == mark) (λ same. other (eqb-true (get_or bytes at 0) mark same))))
+    (not_from_false (get_or bytes at 0 == mark) (false_from_ne_true (get_or bytes at 0 == mark) (λ same. other (eqb-true (get_or bytes at 0) mark same))))
 
 pub returns-then-byte-mark : goal.returns-then-byte-mark
 returns-then-byte-mark c = split_there c.args.mark c.args.bytes.now c.loop-at.at c.loop-at-test.true c.if-byte-mark.true c.loop-at.invariant

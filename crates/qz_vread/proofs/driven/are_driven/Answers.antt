@@ -1,4 +1,4 @@
-use Rattle.std.proofs.Common.{◌≡◌, sym, ap, ◌∙◌, ◌||◌}
+use Rattle.std.proofs.Common.{◌≡◌, ap, ◌∙◌, ◌||◌}
 use Rattle.std.specs.List.{list_any}
 use Rattle.qz_values.specs.declared.Ty.{Ty}
 use Rattle.qz_values.specs.Types.{is_same_type}
@@ -14,6 +14,6 @@ returns c =
     let wires = wire_types c.args.nets.now.wires.now in
     let same : (t : Ty) → has c.add_wires.new.self t ≡ among (types_of c.args.nets.now) t =
     λ t. gathered (port_types c.inputs.result.now) regs wires nothing_has c.add_inputs.new.self c.add_registers.new.self c.add_wires.new.self
-        c.add_inputs.ensures c.add_registers.ensures c.add_wires.ensures no_types t
+    c.add_inputs.ensures c.add_registers.ensures c.add_wires.ensures no_types t
     ∙ ap (λ ports. (list_any (λ u. is_same_type t u) (port_types ports) || list_any (λ u. is_same_type t u) regs) || list_any (λ u. is_same_type t u) wires) c.inputs.ensures in
     rw c.have_each.ensures (all_have (types_of c.args.nets.now) (λ t. has c.add_wires.new.self t) (port_types c.args.outputs.now) same)

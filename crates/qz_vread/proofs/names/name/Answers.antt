@@ -1,4 +1,4 @@
-use Rattle.std.proofs.Common.{◌≡◌, ◌↔◌, ℕ, List, Bool, true, false, Option, Some, None, IsTrue, string_bytes, sym, ap, ◌∙◌}
+use Rattle.std.proofs.Common.{◌≡◌, ℕ, List, false, Some, None, string_bytes, sym, ap, ◌∙◌}
 use Rattle.std.specs.Str.{chars}
 use Rattle.std.specs.Prelude.{String}
 use Rattle.std.proofs.lemmas.Bool.{iff_false}
@@ -39,8 +39,8 @@ returns c =
     let same : c.in-Some-2.name ≡ chars text = named.0 ∙ ap chars c.as_str.ensures.value in
     elim c.if-is_spelled.branch [
       | then-is_spelled w ↦
-        rw w.result-is
-        (named_read c.args.bytes.now (chars text) c.in-Some-2.name some (scalars-chars text (IsUtf8-string_bytes c.in-Some.text)) same named.1 (c.in_ok-is_spelled.ensures.0 w.if-is_spelled.true))
+          rw w.result-is
+          (named_read c.args.bytes.now (chars text) c.in-Some-2.name some (scalars-chars text (IsUtf8-string_bytes c.in-Some.text)) same named.1 (c.in_ok-is_spelled.ensures.0 w.if-is_spelled.true))
       | else-is_spelled w ↦
-        rw w.result-is (misspelled c.args.bytes.now (chars text) c.in-Some-2.name some same (iff_false c.in_ok-is_spelled.ensures w.if-is_spelled.false))
+          rw w.result-is (misspelled c.args.bytes.now (chars text) c.in-Some-2.name some same (iff_false c.in_ok-is_spelled.ensures w.if-is_spelled.false))
     ]

@@ -1,7 +1,7 @@
-use Rattle.std.proofs.Common.{◌≡◌, ℕ, List, [], Option, Some, None, string_bytes, drop, refl, ap, ◌∙◌}
+use Rattle.std.proofs.Common.{ℕ, List, Some, None, refl, ap, ◌∙◌}
 use Rattle.std.specs.Str.{chars}
 use Rattle.std.proofs.lemmas.Str.{chars-nil}
-use Rattle.qz_vread.specs.Unspelling.{Unspelled, with_bytes}
+use Rattle.qz_vread.specs.Unspelling.{with_bytes}
 use Rattle.qz_vread.proofs.NamesRead.{not_taken, not_unspelled}
 use Rattle.qz_vread.proofs.names.unspelled.Goals as goal
 

@@ -1,4 +1,4 @@
-use Rattle.std.proofs.Common.{arith, ◌≡◌, ℕ, ◌∷◌, ◌++◌, Bool, true, false, length, length-append, ap, subst}
+use Rattle.std.proofs.Common.{arith, ◌≡◌, ◌∷◌, ◌++◌, true, false, length, length-append, ap, subst}
 use Rattle.qz_vread.specs.Drafts.{IsStep, Takes}
 use Rattle.qz_vread.proofs.Answering.{line_refused, line_read, next_number, last_read, nothing_so_far, first_number}
 use Rattle.qz_vread.proofs.read.read_v.Goals as goal

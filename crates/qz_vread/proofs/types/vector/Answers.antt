@@ -1,4 +1,4 @@
-use Rattle.std.proofs.Common.{arith, ◌≡◌, ℕ, ◌<◌, ◌≤◌, ◌^◌, List, Option, Some, None, sym}
+use Rattle.std.proofs.Common.{arith, ◌≡◌, ℕ, ◌<◌, ◌^◌, List, Some, None}
 use Rattle.std.specs.Fmt.{decimal}
 use Rattle.qz_vread.specs.Reading.{Reads}
 use Rattle.qz_vread.proofs.Ranges.{no_high, no_range_end}

@@ -1,5 +1,4 @@
-use Rattle.std.proofs.Common.{◌≡◌, ℕ, List, Some, subst}
-use Rattle.qz_values.specs.declared.Ty.{Ty}
+use Rattle.std.proofs.Common.{List, subst}
 use Rattle.qz_syntax.specs.declared.declarations.Port.{Port}
 use Rattle.qz_verilog.specs.Types.{NetTypes}
 use Rattle.qz_verilog.specs.Validity.{IsNetOf}

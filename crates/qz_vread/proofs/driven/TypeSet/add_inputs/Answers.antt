@@ -1,10 +1,4 @@
-use Rattle.std.proofs.Common.{refl, sym, ap, ◌∙◌, get_or, ◌||◌}
-use Rattle.qz_values.specs.declared.Ty.{Ty}
-use Rattle.qz_values.specs.Values.{type_of}
 use Rattle.qz_syntax.specs.declared.declarations.Port.{Port}
-use Rattle.qz_verilog.specs.declared.nets.Rhs.{Rhs}
-use Rattle.qz_values.specs.Types.{is_same_type}
-use Rattle.qz_vread.specs.TypeSets.{has}
 use Rattle.qz_vread.proofs.TypesFound.{adds_more, adds_none, adds_all}
 use Rattle.qz_vread.proofs.driven.TypeSet.add_inputs.Goals as goal
 

@@ -1,8 +1,6 @@
 -- The types so far were added.
 use Rattle.std.proofs.Common.{map, take}
 use Rattle.qz_values.specs.declared.Ty.{Ty}
-use Rattle.qz_values.specs.Values.{type_of}
-use Rattle.qz_syntax.specs.declared.declarations.Port.{Port}
 use Rattle.qz_verilog.specs.declared.nets.Rhs.{Rhs}
 use Rattle.qz_vread.specs.TypeSets.{Adds}
 use Rattle.qz_vread.proofs.driven.TypeSet.add_wires.Given as goal

@@ -1,5 +1,5 @@
-use Rattle.std.proofs.Common.{◌≡◌, ℕ, List, [], ◌∷◌, ◌++◌, Option, Some, None, string_bytes, sym, ap, ◌∙◌, subst, arith}
-use Rattle.std.specs.Char.{IsScalar, InScalarRange}
+use Rattle.std.proofs.Common.{◌≡◌, [], ◌∷◌, ◌++◌, None, string_bytes, sym, ap, ◌∙◌, subst, arith}
+use Rattle.std.specs.Char.{IsScalar}
 use Rattle.std.specs.Str.{chars}
 use Rattle.std.proofs.lemmas.Str.{IsUtf8-string_bytes}
 use Rattle.qz_vread.specs.Unspelling.{Unspelled}

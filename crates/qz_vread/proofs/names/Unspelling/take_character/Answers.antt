@@ -1,8 +1,8 @@
-use Rattle.std.proofs.Common.{◌≡◌, ℕ, List, [], ◌∷◌, ◌++◌, Option, Some, None, string_bytes, sym, ap, ◌∙◌, subst}
+use Rattle.std.proofs.Common.{◌≡◌, [], ◌∷◌, ◌++◌, None, string_bytes, sym, ap, ◌∙◌, subst}
 use Rattle.std.specs.Char.{IsScalar}
 use Rattle.std.specs.Str.{chars}
 use Rattle.std.proofs.lemmas.Str.{IsUtf8-string_bytes}
-use Rattle.qz_vread.specs.Unspelling.{Unspelled, with_character}
+use Rattle.qz_vread.specs.Unspelling.{Unspelled}
 use Rattle.qz_vread.proofs.Unspelling.{at}
 use Rattle.qz_vread.proofs.NamesRead.{character_more, character_taken}
 use Rattle.qz_vread.proofs.names.Unspelling.take_character.Goals as goal

@@ -1,8 +1,5 @@
-use Rattle.std.proofs.Common.{arith, ◌≡◌, ◌↔◌, ℕ, ◌+◌, ◌-◌, ◌<◌, ◌≤◌, Bool, true, false, not, List, [], ◌∷◌, ◌++◌, length, map, Option, Some, None, IsTrue, refl, sym, ap, ◌∙◌, subst}
+use Rattle.std.proofs.Common.{arith, ◌≡◌, ◌<◌, ◌≤◌, ◌++◌, length, Some, None, ◌∙◌, subst}
 use Rattle.std.specs.Str.{bytes_eq}
-use Rattle.std.specs.Global.{Vec}
-use Rattle.qz_syntax.specs.declared.declarations.Port.{Port}
-use Rattle.qz_vread.specs.PortLists.{PortLists}
 use Rattle.qz_vread.proofs.SpelledNames.{FindsPort, finds_port, key_place, no_input, an_input, an_output}
 use Rattle.qz_vread.proofs.ports.Ports.input.Goals as goal
 

@@ -1,13 +1,11 @@
-use Rattle.std.proofs.Common.{arith, ◌≡◌, ◌↔◌, ℕ, ◌+◌, ◌-◌, ◌<◌, ◌≤◌, Bool, true, false, not, List, [], ◌∷◌, ◌++◌, length, map, Option, Some, None, IsTrue, refl, sym, ap, ◌∙◌, subst}
+use Rattle.std.proofs.Common.{◌≡◌, ℕ, not, ◌++◌, map, ap, ◌∙◌}
 use Rattle.std.specs.Str.{bytes_eq}
 use Rattle.std.specs.Global.{Vec}
-use Rattle.qz_syntax.specs.declared.declarations.Port.{Port}
 use Rattle.qz_vread.specs.PortLists.{PortLists}
 use Rattle.std.specs.List.{list_any}
 use Rattle.qz_syntax.specs.DoubleNames.{is_among}
 use Rattle.qz_verilog.specs.Validity.{port_names}
 use Rattle.qz_vtext.specs.Names.{name_text}
-use Rattle.qz_vread.specs.Naming.{IsNamed}
 use Rattle.qz_vread.proofs.SpelledNames.{any_map, among_spelled}
 use Rattle.qz_vread.proofs.ports.Ports.is_free.Goals as goal
 

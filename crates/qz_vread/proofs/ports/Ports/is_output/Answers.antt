@@ -1,9 +1,8 @@
-use Rattle.std.proofs.Common.{arith, ◌≡◌, ◌↔◌, ℕ, ◌+◌, ◌-◌, ◌<◌, ◌≤◌, Bool, true, false, not, List, [], ◌∷◌, ◌++◌, length, map, Option, Some, None, IsTrue, refl, sym, ap, ◌∙◌, subst}
+use Rattle.std.proofs.Common.{arith, ◌≡◌, ◌+◌, ◌-◌, ◌<◌, ◌≤◌, List, ◌++◌, length, Some, None, sym, ap, ◌∙◌, subst}
 use Rattle.std.specs.Str.{bytes_eq}
-use Rattle.std.specs.Global.{Vec}
 use Rattle.qz_syntax.specs.declared.declarations.Port.{Port}
 use Rattle.qz_vread.specs.PortLists.{PortLists}
-use Rattle.std.proofs.lemmas.Bool.{eqb-true, eq-eqb, false≢true, leb-true, lt-leb, both_ways}
+use Rattle.std.proofs.lemmas.Bool.{eqb-true, eq-eqb, false≢true, leb-true}
 use Rattle.qz_vread.proofs.SpelledNames.{FindsPort, finds_port, key_place, IsOutputAt, output_found, output_place}
 use Rattle.qz_vread.proofs.ports.Ports.is_output.Goals as goal
 
@@ -19,7 +18,7 @@ returns-then-at-len c =
     let P : List Port → Type 0 = λ os. IsOutputAt os text c.args.number in (
       λ t. subst P out
           (output_found ins outs text c.in-Some.at c.args.number found
-              (let e = eqb-true (c.in-Some.at - c.len-then-at-len.result) c.args.number t in omega (arith, e, above, c.len-then-at-len.ensures))),
+          (let e = eqb-true (c.in-Some.at - c.len-then-at-len.result) c.args.number t in omega (arith, e, above, c.len-then-at-len.ensures))),
       λ at. eq-eqb (c.in-Some.at - c.len-then-at-len.result) c.args.number
           (let some : Some c.in-Some.at ≡ Some (length ins + c.args.number) = output_place ins outs text (Some c.in-Some.at) c.args.number found (subst P (sym out) at) in
           let same : c.in-Some.at ≡ length ins + c.args.number = cc in
