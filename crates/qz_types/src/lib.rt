@@ -23,8 +23,6 @@ mod numbers;
 mod scope;
 mod short_lists;
 mod statements;
-#[cfg(test)]
-mod tests;
 mod typed;
 mod variables;
 

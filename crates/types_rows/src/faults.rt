@@ -1,205 +1,18 @@
-//! Rows worked out by hand: what is said against small files, and where.
+//! What is said first against a file, and where.
 
-use crate::{Fault, TypeKind, first_fault};
-use qz_syntax::{
-    Class, Cond, Dir, File, FileBlock, FileDecl, FileExpr, FileFormal, FileProto, FileStmt, Name,
-    NameAt, Target, TypeText,
+use crate::files::{
+    Made, Value, add, assign, block, byte, call, choice, emit, file, formal, formals, inner,
+    joined, labelled, local, name, one, paren, proto, select, two, variable, whiles,
 };
+use qz_syntax::{Dir, File, FileExpr, FileFormal, FileStmt, TypeText};
+use qz_types::{Fault, TypeKind, first_fault};
 use qz_values::{Op1, Op2};
-use sqlite_items::{Boxed, Items};
+use sqlite_items::Items;
 use std::alloc::{AllocError, Global};
 use std::test::Fail;
 
-type Made = Result<FileStmt, AllocError>;
-
-type Value = Result<FileExpr, AllocError>;
-
+/// The offset and the kind, if there is a fault.
 type Row = Option<(u32, TypeKind)>;
-
-const BYTE: TypeText = TypeText::Bv { width: 8, at: 90 };
-
-fn name(alloc: Global, text: &str, at: u32) -> Result<NameAt, AllocError> {
-    match Name::new(alloc, text)? {
-        Some(name) => Ok(NameAt { name, at }),
-        None => Err(AllocError),
-    }
-}
-
-fn variable(alloc: Global, text: &str, at: u32) -> Value {
-    Ok(FileExpr::Name(name(alloc, text, at)?))
-}
-
-fn byte(value: u128, at: u32) -> Value {
-    Ok(FileExpr::Lit {
-        width: 8,
-        value,
-        at,
-    })
-}
-
-fn one(alloc: Global, op: Op1, at: u32, arg: Value) -> Value {
-    let arg = Boxed::new(alloc, arg?)?;
-    Ok(FileExpr::Un { op, at, arg })
-}
-
-fn two(alloc: Global, op: Op2, at: u32, left: Value, right: Value) -> Value {
-    let left = Boxed::new(alloc, left?)?;
-    let right = Boxed::new(alloc, right?)?;
-    Ok(FileExpr::Bin {
-        op,
-        at,
-        left,
-        right,
-    })
-}
-
-fn choice(alloc: Global, at: u32, cond: Value, yes: Value, no: Value) -> Value {
-    let cond = Boxed::new(alloc, cond?)?;
-    let yes = Boxed::new(alloc, yes?)?;
-    let no = Boxed::new(alloc, no?)?;
-    Ok(FileExpr::Choose { at, cond, yes, no })
-}
-
-fn select(alloc: Global, at: u32, arg: Value, high: u128, low: Option<u128>) -> Value {
-    let arg = Boxed::new(alloc, arg?)?;
-    Ok(FileExpr::Select { at, arg, high, low })
-}
-
-fn joined(alloc: Global, at: u32, left: Value, right: Value) -> Value {
-    let left = Boxed::new(alloc, left?)?;
-    let right = Boxed::new(alloc, right?)?;
-    Ok(FileExpr::Concat { at, left, right })
-}
-
-fn paren(alloc: Global, at: u32, inner: Value) -> Value {
-    let inner = Boxed::new(alloc, inner?)?;
-    Ok(FileExpr::Paren { at, inner })
-}
-
-fn target(alloc: Global, text: &str, at: u32) -> Result<Target, AllocError> {
-    Ok(Target {
-        next: false,
-        name: name(alloc, text, at)?,
-    })
-}
-
-/// An assignment with its target at 10 and its `=` at 12.
-fn assign(alloc: Global, text: &str, value: Value) -> Made {
-    Ok(FileStmt::Assign {
-        target: target(alloc, text, 10)?,
-        equals: 12,
-        value: value?,
-    })
-}
-
-fn emit(alloc: Global, text: &str, at: u32) -> Made {
-    Ok(FileStmt::Emit(target(alloc, text, at)?))
-}
-
-fn labelled(alloc: Global, text: &str, at: u32) -> Made {
-    Ok(FileStmt::Pause(Some(name(alloc, text, at)?)))
-}
-
-/// `while(e) nothing;` with its `(` at 10.
-fn whiles(alloc: Global, e: Value) -> Made {
-    let body = Boxed::new(alloc, FileStmt::Nothing)?;
-    Ok(FileStmt::While(Cond { at: 10, expr: e? }, body))
-}
-
-fn add<T: Drop>(
-    items: Result<Items<T>, AllocError>,
-    item: Result<T, AllocError>,
-) -> Result<Items<T>, AllocError> {
-    let mut items = items?;
-    items.push(item?)?;
-    Ok(items)
-}
-
-/// A call of the callee at 10 with four arguments.
-fn call(alloc: Global, callee: &str, a: Value, b: Value, c: Value, d: Value) -> Made {
-    let args = add(add(add(add(Ok(Items::new(alloc)), a), b), c), d)?;
-    Ok(FileStmt::Call {
-        callee: name(alloc, callee, 10)?,
-        args,
-    })
-}
-
-/// A declaration of one local.
-fn local(alloc: Global, ty: TypeText, text: &str, at: u32) -> Result<FileDecl, AllocError> {
-    Ok(FileDecl {
-        class: Class::Mem,
-        ty,
-        names: add(Ok(Items::new(alloc)), name(alloc, text, at))?,
-    })
-}
-
-fn block(
-    alloc: Global,
-    decl: Result<FileDecl, AllocError>,
-    first: Made,
-    second: Made,
-) -> Result<FileBlock, AllocError> {
-    let parts = add(add(Ok(Items::new(alloc)), first), second);
-    Ok(FileBlock {
-        decls: add(Ok(Items::new(alloc)), decl)?,
-        lists: add(Ok(Items::new(alloc)), parts)?,
-    })
-}
-
-/// A block as a statement.
-fn inner(alloc: Global, decl: Result<FileDecl, AllocError>, first: Made, second: Made) -> Made {
-    Ok(FileStmt::Block(block(alloc, decl, first, second)?))
-}
-
-fn formal(
-    alloc: Global,
-    dir: Dir,
-    ty: TypeText,
-    text: &str,
-    at: u32,
-) -> Result<FileFormal, AllocError> {
-    Ok(FileFormal {
-        class: Class::Event,
-        dir,
-        ty,
-        name: name(alloc, text, at)?,
-    })
-}
-
-/// `event ?i, event !o, event bv[8] ?n, event bv[8] !m`
-fn formals(alloc: Global) -> Result<Items<FileFormal>, AllocError> {
-    let bools = add(
-        add(
-            Ok(Items::new(alloc)),
-            formal(alloc, Dir::In, TypeText::Bool, "i", 1),
-        ),
-        formal(alloc, Dir::Out, TypeText::Bool, "o", 2),
-    );
-    add(
-        add(bools, formal(alloc, Dir::In, BYTE, "n", 3)),
-        formal(alloc, Dir::Out, BYTE, "m", 4),
-    )
-}
-
-fn file(
-    alloc: Global,
-    module: &str,
-    formals_are: Result<Items<FileFormal>, AllocError>,
-    body: Result<FileBlock, AllocError>,
-) -> Result<File, AllocError> {
-    let proto = Ok(FileProto {
-        name: name(alloc, "B", 0)?,
-        formals: formals(alloc)?,
-    });
-    Ok(File {
-        protos: add(Ok(Items::new(alloc)), proto)?,
-        module: FileProto {
-            name: name(alloc, module, 1)?,
-            formals: formals_are?,
-        },
-        body: body?,
-    })
-}
 
 fn row_of(fault: Option<Fault>) -> Row {
     match fault {
@@ -316,7 +129,9 @@ enum Body {
     OutOfScope,
     Labels(&'static str),
     WideIsUsed,
+    Twice,
     Call(&'static str),
+    Input(&'static str),
     FewArguments,
     Parentheses,
     Output(&'static str),
@@ -332,6 +147,18 @@ fn calls(alloc: Global, callee: &str, o: Value, m: Value) -> Made {
 /// A block with the local `y` and two statements.
 fn with_y(alloc: Global, at: u32, first: Made, second: Made) -> Made {
     inner(alloc, local(alloc, TypeText::Bool, "y", at), first, second)
+}
+
+/// A block that declares `y` twice.
+fn twice(alloc: Global) -> Made {
+    let mut decl = local(alloc, TypeText::Bool, "y", 40)?;
+    decl.names.push(name(alloc, "y", 45)?)?;
+    inner(
+        alloc,
+        Ok(decl),
+        Ok(FileStmt::Nothing),
+        Ok(FileStmt::Nothing),
+    )
 }
 
 fn few(alloc: Global) -> Made {
@@ -379,6 +206,11 @@ fn statement(alloc: Global, body: Body) -> Made {
             let decl = local(alloc, TypeText::Bv { width: 65, at: 39 }, "y", 40);
             inner(alloc, decl, assign(alloc, "y", o(20)), nothing())
         }
+        Body::Twice => twice(alloc),
+        Body::Input(text) => {
+            let vector = variable(alloc, "n", 40);
+            call(alloc, "B", variable(alloc, text, 20), o(30), vector, m())
+        }
         Body::Call(callee) => calls(alloc, callee, o(30), m()),
         Body::FewArguments => few(alloc),
         Body::Parentheses => calls(alloc, "B", paren(alloc, 29, o(30)), m()),
@@ -387,7 +219,7 @@ fn statement(alloc: Global, body: Body) -> Made {
     }
 }
 
-const STATEMENTS: [(&str, Body, Row); 23] = [
+const STATEMENTS: [(&str, Body, Row); 26] = [
     ("A", Body::Nothing, None),
     ("B", Body::Nothing, Some((1, TypeKind::DoubleName))),
     ("A", Body::Emit("o"), None),
@@ -401,6 +233,7 @@ const STATEMENTS: [(&str, Body, Row); 23] = [
     ("A", Body::LaterIsFirst, Some((20, TypeKind::UnknownName))),
     ("A", Body::Local("o"), Some((40, TypeKind::DoubleName))),
     ("A", Body::Local("x"), Some((40, TypeKind::DoubleName))),
+    ("A", Body::Twice, Some((45, TypeKind::DoubleName))),
     ("A", Body::SideBySide, None),
     ("A", Body::OutOfScope, Some((60, TypeKind::UnknownName))),
     ("A", Body::Labels("l"), Some((60, TypeKind::DoubleName))),
@@ -409,8 +242,10 @@ const STATEMENTS: [(&str, Body, Row); 23] = [
     ("A", Body::WideIsUsed, Some((39, TypeKind::WidthRange))),
     ("A", Body::Call("B"), None),
     ("A", Body::Call("C"), Some((10, TypeKind::UnknownName))),
+    ("A", Body::Input("n"), Some((20, TypeKind::TypeDiffers))),
     ("A", Body::FewArguments, Some((10, TypeKind::ArgCount))),
     ("A", Body::Parentheses, Some((29, TypeKind::NotWritable))),
+    ("A", Body::Output("i"), Some((30, TypeKind::NotWritable))),
     ("A", Body::Output("x"), Some((30, TypeKind::ArgClass))),
     ("A", Body::LiteralOutput, Some((50, TypeKind::NotWritable))),
 ];
@@ -423,7 +258,7 @@ fn statements(rt: HostRuntime) -> Result<(), Fail> {
     Ok(())
 }
 
-/// That many formals.
+/// That many formals, of which each is at its number.
 fn many(alloc: Global, count: u32) -> Result<Items<FileFormal>, AllocError> {
     let mut formals = Items::new(alloc);
     for at in 0..count {
@@ -433,18 +268,68 @@ fn many(alloc: Global, count: u32) -> Result<Items<FileFormal>, AllocError> {
     Ok(formals)
 }
 
-/// What is said first of a module with that many formals.
-fn said_of_many(alloc: Global, count: u32) -> Result<Row, AllocError> {
+/// What a file declares before its body.
+#[derive(Clone, Copy)]
+enum Heads {
+    Formals(u32),
+    FormalTwice,
+    WideFormal,
+    ProtoFormals(u32),
+    ProtoTwice,
+}
+
+fn two_formals(
+    alloc: Global,
+    first: Result<FileFormal, AllocError>,
+    second: Result<FileFormal, AllocError>,
+) -> Result<Items<FileFormal>, AllocError> {
+    add(add(Ok(Items::new(alloc)), first), second)
+}
+
+fn headed(alloc: Global, heads: Heads) -> Result<File, AllocError> {
     let decl = local(alloc, TypeText::Bool, "x", 5);
     let body = block(alloc, decl, Ok(FileStmt::Nothing), Ok(FileStmt::Nothing));
-    let f = file(alloc, "A", many(alloc, count), body)?;
+    let bit = |at: u32| formal(alloc, Dir::In, TypeText::Bool, "a", at);
+    match heads {
+        Heads::Formals(count) => file(alloc, "A", many(alloc, count), body),
+        Heads::FormalTwice => file(alloc, "A", two_formals(alloc, bit(3), bit(6)), body),
+        Heads::WideFormal => {
+            let wide = formal(alloc, Dir::In, TypeText::Bv { width: 0, at: 8 }, "b", 9);
+            file(alloc, "A", two_formals(alloc, bit(3), wide), body)
+        }
+        Heads::ProtoFormals(count) => {
+            let mut f = file(alloc, "A", formals(alloc), body)?;
+            f.protos.push(proto(alloc, "C", 2, many(alloc, count))?)?;
+            Ok(f)
+        }
+        Heads::ProtoTwice => {
+            let mut f = file(alloc, "A", formals(alloc), body)?;
+            f.protos.push(proto(alloc, "B", 7, formals(alloc))?)?;
+            Ok(f)
+        }
+    }
+}
+
+const HEADS: [(Heads, Row); 7] = [
+    (Heads::Formals(256), None),
+    (Heads::Formals(257), Some((256, TypeKind::TooMany))),
+    (Heads::FormalTwice, Some((6, TypeKind::DoubleName))),
+    (Heads::WideFormal, Some((8, TypeKind::WidthRange))),
+    (Heads::ProtoFormals(256), None),
+    (Heads::ProtoFormals(257), Some((256, TypeKind::TooMany))),
+    (Heads::ProtoTwice, Some((7, TypeKind::DoubleName))),
+];
+
+/// What is said first of a file that declares that.
+fn says_of_heads(alloc: Global, heads: Heads) -> Result<Row, AllocError> {
+    let f = headed(alloc, heads)?;
     Ok(row_of(first_fault(alloc, &f)?))
 }
 
 #[test]
-fn counts_of_formals(rt: HostRuntime) -> Result<(), Fail> {
-    for (count, row) in [(256, None), (257, Some((256, TypeKind::TooMany)))] {
-        assert_eq!(rt; said_of_many(rt.alloc(), count)?, row);
+fn heads_of_files(rt: HostRuntime) -> Result<(), Fail> {
+    for (heads, row) in HEADS {
+        assert_eq!(rt; says_of_heads(rt.alloc(), heads)?, row);
     }
     Ok(())
 }
