@@ -1,0 +1,15 @@
+//! Reads phrases of a source text from its words: the tree of the phrase that stands there, or the first word at
+//! fault.
+//!
+//! The grammar is in `specs/`: how trees are spelled by words, with what their levels and their operators allow
+//! (`Expressions.antt`, `Declarations.antt`, `Statements.antt`), put together from a few forms (`Phrases.antt`).
+//! `Reading.antt` says what a reader gives, whatever words come later: the one phrase that is there, or that
+//! none is there (`Parse`) or only ones with more levels (`Deep`), while what was read before begins one.
+#![tactic(auto)]
+
+mod cursor;
+mod expressions;
+mod words;
+
+pub use cursor::Fault;
+pub use words::{HeadStart, IndexStart, Mark, Sort, Spot, TailStart, Word};
