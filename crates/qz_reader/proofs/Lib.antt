@@ -6,3 +6,5 @@ pub mod Spines
 pub mod Climbing
 pub mod Operands
 pub mod Tails
+pub mod Fills
+pub mod Lists

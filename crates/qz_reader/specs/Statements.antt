@@ -10,7 +10,9 @@ use Rattle.qz_syntax.specs.declared.file_statements.FileStmt.TheVariants as stmt
 use Rattle.qz_reader.specs.declared.words.Sort.{Sort}
 use Rattle.qz_reader.specs.declared.words.Sort.TheVariants as sort
 use Rattle.qz_reader.specs.declared.words.Mark.TheVariants as mark
-use Rattle.qz_reader.specs.Words.{first}
+use Rattle.qz_reader.specs.declared.words.TargetStart.{TargetStart}
+use Rattle.qz_reader.specs.declared.words.TargetStart.TheVariants as start
+use Rattle.qz_reader.specs.Words.{first, target_start}
 use Rattle.qz_reader.specs.Phrases.{Rel, Kind, none, one, name, seq, meant, by_first, nothing, stop, many, several}
 use Rattle.qz_reader.specs.Expressions.{an_expr}
 use Rattle.qz_reader.specs.Declarations.{declares, a_decl}
@@ -24,10 +26,13 @@ abbrev pub next_target : Rel Target
 next_target = meant (λ p. record { next = true; name = p.1.1.0 }) (seq (one mark.Next) (seq (one mark.OpenParen) (seq name (one mark.CloseParen))))
 
 -- `x` or `next ( x )`
-abbrev pub target_row : Sort → Rel Target
-target_row sort.Name = meant (λ n. record { next = false; name = n }) name
-target_row (sort.Mark mark.Next) = next_target
-target_row _ = none
+abbrev pub target_row : TargetStart → Rel Target
+target_row start.Name = meant (λ n. record { next = false; name = n }) name
+target_row start.Next = next_target
+target_row start.None = none
+
+abbrev pub a_target : Rel Target
+a_target = by_first (λ w. target_row (target_start w))
 
 -- `= e ;`
 abbrev pub a_value : Kind (ℕ × FileExpr)
@@ -63,8 +68,8 @@ named_row n _ levels = none
 
 -- what follows `emit`
 abbrev pub emitted_row : Sort → Rel Target
-emitted_row (sort.Mark mark.OpenParen) = meant (λ p. p.1.0) (seq (one mark.OpenParen) (seq (by_first target_row) (one mark.CloseParen)))
-emitted_row _ = by_first target_row
+emitted_row (sort.Mark mark.OpenParen) = meant (λ p. p.1.0) (seq (one mark.OpenParen) (seq a_target (one mark.CloseParen)))
+emitted_row _ = a_target
 
 -- what begins a statement
 abbrev pub preempting_row : Rel FileStmt → Bool → Bool → Sort → Kind FileStmt

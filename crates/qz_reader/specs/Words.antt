@@ -13,6 +13,13 @@ use Rattle.qz_reader.specs.declared.words.TailStart.{TailStart}
 use Rattle.qz_reader.specs.declared.words.TailStart.TheVariants as tail
 use Rattle.qz_reader.specs.declared.words.IndexStart.{IndexStart}
 use Rattle.qz_reader.specs.declared.words.IndexStart.TheVariants as index
+use Rattle.qz_reader.specs.declared.words.TargetStart.{TargetStart}
+use Rattle.qz_reader.specs.declared.words.TargetStart.TheVariants as target
+use Rattle.qz_reader.specs.declared.words.TypeStart.{TypeStart}
+use Rattle.qz_reader.specs.declared.words.TypeStart.TheVariants as type
+use Rattle.qz_reader.specs.declared.words.TypingStart.{TypingStart}
+use Rattle.qz_reader.specs.declared.words.TypingStart.TheVariants as typing
+use Rattle.qz_syntax.specs.declared.declarations.Class.TheVariants as class
 use Rattle.qz_values.specs.declared.Op1.{Op1}
 use Rattle.qz_values.specs.declared.Op1.TheVariants as op1
 use Rattle.qz_values.specs.declared.Op2.{Op2}
@@ -110,6 +117,26 @@ abbrev pub index_start : Sort → IndexStart
 index_start (sort.Mark mark.CloseBrace) = index.Close
 index_start (sort.Mark mark.Colon) = index.Colon
 index_start _ = index.None
+
+-- what a word begins, where a target is wanted
+abbrev pub target_start : Sort → TargetStart
+target_start sort.Name = target.Name
+target_start (sort.Mark mark.Next) = target.Next
+target_start _ = target.None
+
+-- what a word begins, where a type is wanted
+abbrev pub type_start : Sort → TypeStart
+type_start (sort.Mark mark.Bool) = type.Bool
+type_start (sort.Mark mark.Bv) = type.Bv
+type_start _ = type.None
+
+-- what a word begins, where a class or a type is wanted
+abbrev pub typing_start : Sort → TypingStart
+typing_start (sort.Mark mark.Event) = typing.Class class.Event
+typing_start (sort.Mark mark.Mem) = typing.Class class.Mem
+typing_start (sort.Mark mark.Bool) = typing.Type
+typing_start (sort.Mark mark.Bv) = typing.Type
+typing_start _ = typing.None
 
 -- How strongly a form binds: `?:` 1, `->` 2, `|` 3, `^` 4, `&` 5, comparisons 6, `+` and `-` 7, `@` 8,
 -- `!` and `~` 9, selections and operands 10.

@@ -9,7 +9,10 @@
 
 mod cursor;
 mod expressions;
+mod statement_parts;
 mod words;
 
 pub use cursor::Fault;
-pub use words::{HeadStart, IndexStart, Mark, Sort, Spot, TailStart, Word};
+pub use words::{
+    HeadStart, IndexStart, Mark, Sort, Spot, TailStart, TargetStart, TypeStart, TypingStart, Word,
+};

@@ -1,9 +1,9 @@
 //! The words of a text, as the grammar sees them.
 
 ghost use Rattle.std.specs.Prelude.{◌≡◌};
-ghost use Rattle.qz_reader.specs.Words.{sort_of, head_start, tail_start, index_start, bool_mark, unary_mark, binary_mark, tail_strength, tail_left, binary_right, head_strength};
+ghost use Rattle.qz_reader.specs.Words.{sort_of, head_start, tail_start, index_start, target_start, type_start, typing_start, bool_mark, unary_mark, binary_mark, tail_strength, tail_left, binary_right, head_strength};
 
-use qz_syntax::Name;
+use qz_syntax::{Class, Name};
 use qz_values::{Op1, Op2};
 
 /// The signs and the reserved words.
@@ -168,7 +168,77 @@ pub enum IndexStart {
     None,
 }
 
+/// What a word begins, where a target is wanted.
+#[derive(Clone, Copy, Debug)]
+pub enum TargetStart {
+    Name,
+    Next,
+    /// No target.
+    None,
+}
+
+/// What a word begins, where a type is wanted.
+#[derive(Clone, Copy, Debug)]
+pub enum TypeStart {
+    Bool,
+    Bv,
+    /// No type.
+    None,
+}
+
+/// What a word begins, where a class or a type is wanted.
+#[derive(Clone, Copy, Debug)]
+pub enum TypingStart {
+    Class(Class),
+    Type,
+    /// Neither.
+    None,
+}
+
 impl Sort {
+    /// What the word begins, where a target is wanted.
+    pub fn target(self) -> TargetStart
+        ensures { result ≡ target_start self }
+    {
+        match self {
+            Sort::Mark(mark) => match mark {
+                Mark::Next => TargetStart::Next,
+                _ => TargetStart::None,
+            },
+            Sort::Name => TargetStart::Name,
+            Sort::Number | Sort::Literal | Sort::End => TargetStart::None,
+        }
+    }
+
+    /// What the word begins, where a type is wanted.
+    pub fn ty(self) -> TypeStart
+        ensures { result ≡ type_start self }
+    {
+        match self {
+            Sort::Mark(mark) => match mark {
+                Mark::Bool => TypeStart::Bool,
+                Mark::Bv => TypeStart::Bv,
+                _ => TypeStart::None,
+            },
+            Sort::Name | Sort::Number | Sort::Literal | Sort::End => TypeStart::None,
+        }
+    }
+
+    /// What the word begins, where a class or a type is wanted.
+    pub fn typing(self) -> TypingStart
+        ensures { result ≡ typing_start self }
+    {
+        match self {
+            Sort::Mark(mark) => match mark {
+                Mark::Event => TypingStart::Class(Class::Event),
+                Mark::Mem => TypingStart::Class(Class::Mem),
+                Mark::Bool | Mark::Bv => TypingStart::Type,
+                _ => TypingStart::None,
+            },
+            Sort::Name | Sort::Number | Sort::Literal | Sort::End => TypingStart::None,
+        }
+    }
+
     /// What the word begins, after the first index of a selection.
     pub fn index(self) -> IndexStart
         ensures { result ≡ index_start self }
