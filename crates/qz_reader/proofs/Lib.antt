@@ -8,3 +8,4 @@ pub mod Operands
 pub mod Tails
 pub mod Fills
 pub mod Lists
+pub mod Typings

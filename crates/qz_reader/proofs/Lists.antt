@@ -46,8 +46,8 @@ module _ {S A B : Type 0} (item : S → Kind A) (next : A → S) (end : S → Ki
     read = so_far.read ∙ ap (λ ws. so_far.front ++ ws) k.it.read ∙ sym (append_assoc so_far.front k.it.front (upcoming after));
     stands = λ levels low words may ys y rest h.
         subst (λ zs. row item next end s0 levels zs y ((so_far.front ++ k.it.front) ++ words) rest) (sym (append_assoc xs (x ∷ []) ys))
-            (subst (λ ws. row item next end s0 levels (xs ++ x ∷ ys) y ws rest) (sym (append_assoc so_far.front k.it.front words))
-            (so_far.stands levels low (k.it.front ++ words) (inr (front_first k.it.front words now after k.it.read k.some)) (x ∷ ys) y rest (words, k.it.stands levels low words may, h)));
+        (subst (λ ws. row item next end s0 levels (xs ++ x ∷ ys) y ws rest) (sym (append_assoc so_far.front k.it.front words))
+        (so_far.stands levels low (k.it.front ++ words) (inr (front_first k.it.front words now after k.it.read k.some)) (x ∷ ys) y rest (words, k.it.stands levels low words may, h)));
     only = λ others agrees levels ys y rest h.
         let o = so_far.only others (agrees_before now after others k.it.moves agrees) levels ys y rest h in
         by_more others agrees levels ys y rest o.0 o.1 o.2;
@@ -70,8 +70,8 @@ module _ {S A B : Type 0} (item : S → Kind A) (next : A → S) (end : S → Ki
     read = so_far.read ∙ ap (λ ws. so_far.front ++ ws) k.read ∙ sym (append_assoc so_far.front k.front (upcoming after));
     stands = λ levels low words may.
         subst (λ zs. row item next end s0 levels zs y ((so_far.front ++ k.front) ++ words) words) (append-nil xs)
-            (subst (λ ws. row item next end s0 levels (xs ++ []) y ws words) (sym (append_assoc so_far.front k.front words))
-            (so_far.stands levels low (k.front ++ words) (may_before now after k.front words k.read may) [] y words (k.stands levels low words may)));
+        (subst (λ ws. row item next end s0 levels (xs ++ []) y ws words) (sym (append_assoc so_far.front k.front words))
+        (so_far.stands levels low (k.front ++ words) (may_before now after k.front words k.read may) [] y words (k.stands levels low words may)));
     only = λ others agrees levels p rest h.
         let o = so_far.only others (agrees_before now after others k.moves agrees) levels p.0 p.1 rest h in
         by_more others agrees levels p rest o.0 o.1 o.2;
@@ -101,11 +101,11 @@ module _ {S A B : Type 0} (item : S → Kind A) (next : A → S) (end : S → Ki
     item_begun front low top same b up enough =
         let e = fill (next b.phrase) in
         begun front (b.more ++ e.more) (b.phrase ∷ []) e.phrase top up (λ words h. inr (same ((b.more ++ e.more) ++ words)))
-            (λ levels low words h. (
-              e.more ++ words,
-              subst (λ ws. item state levels b.phrase (front ++ ws) (e.more ++ words)) (sym (append_assoc b.more e.more words)) (b.stands levels (omega (arith, low, enough)) (e.more ++ words) (clear (next b.phrase) words h)),
-              e.stands levels (omega (arith, low, up)) words h,
-            ))
+        (λ levels low words h. (
+          e.more ++ words,
+          subst (λ ws. item state levels b.phrase (front ++ ws) (e.more ++ words)) (sym (append_assoc b.more e.more words)) (b.stands levels (omega (arith, low, enough)) (e.more ++ words) (clear (next b.phrase) words h)),
+          e.stands levels (omega (arith, low, up)) words h,
+        ))
 
     end_begun : (front : List Spot) (low top : ℕ) → ((words : List Spot) → first (front ++ words) ≡ first (upcoming now)) → Begins (end state) low front → room ≤ top → low ≤ top → Begins (row_kind item next end s0) top (so_far.front ++ front)
     end_begun front low top same b up enough =

@@ -13,27 +13,39 @@ use Rattle.qz_syntax.specs.declared.file_expressions.NameAt.{NameAt}
 use Rattle.qz_reader.specs.declared.words.Sort.{Sort}
 use Rattle.qz_reader.specs.declared.words.Sort.TheVariants as sort
 use Rattle.qz_reader.specs.declared.words.Mark.TheVariants as mark
+use Rattle.qz_reader.specs.declared.words.TypeStart.{TypeStart}
+use Rattle.qz_reader.specs.declared.words.TypeStart.TheVariants as start
+use Rattle.qz_reader.specs.declared.words.TypingStart.{TypingStart}
+use Rattle.qz_reader.specs.declared.words.TypingStart.TheVariants as typing
+use Rattle.qz_reader.specs.Words.{class_mark, type_start, typing_start}
 use Rattle.qz_reader.specs.Phrases.{Rel, none, one, name, number, seq, meant, by_first, nothing, many, several}
 
 -- `bool` or `bv[n]`
-abbrev pub type_row : Sort → Rel TypeText
-type_row (sort.Mark mark.Bool) = meant (λ _. type.Bool) (one mark.Bool)
-type_row (sort.Mark mark.Bv) = meant (λ p. type.Bv p.1.1.0.0 p.1.1.0.1) (seq (one mark.Bv) (seq (one mark.OpenBracket) (seq number (one mark.CloseBracket))))
-type_row _ = none
+abbrev pub type_row : TypeStart → Rel TypeText
+type_row start.Bool = meant (λ _. type.Bool) (one mark.Bool)
+type_row start.Bv = meant (λ p. type.Bv p.1.1.0.0 p.1.1.0.1) (seq (one mark.Bv) (seq (one mark.OpenBracket) (seq number (one mark.CloseBracket))))
+type_row start.None = none
+
+abbrev pub a_type : Rel TypeText
+a_type = by_first (λ w. type_row (type_start w))
 
 -- a type, or else `bool` without a word
-abbrev pub type_or_bool : Sort → Rel TypeText
-type_or_bool (sort.Mark mark.Bool) = by_first type_row
-type_or_bool (sort.Mark mark.Bv) = by_first type_row
-type_or_bool _ = nothing type.Bool
+abbrev pub type_or_bool_row : TypeStart → Rel TypeText
+type_or_bool_row start.Bool = a_type
+type_or_bool_row start.Bv = a_type
+type_or_bool_row start.None = nothing type.Bool
+
+abbrev pub type_or_bool : Rel TypeText
+type_or_bool = by_first (λ w. type_or_bool_row (type_start w))
 
 -- a class, a type or both: without a class it is `mem`
-abbrev pub typing_row : Sort → Rel (Class × TypeText)
-typing_row (sort.Mark mark.Event) = meant (λ p. (class.Event, p.1)) (seq (one mark.Event) (by_first type_or_bool))
-typing_row (sort.Mark mark.Mem) = meant (λ p. (class.Mem, p.1)) (seq (one mark.Mem) (by_first type_or_bool))
-typing_row (sort.Mark mark.Bool) = meant (λ t. (class.Mem, t)) (by_first type_row)
-typing_row (sort.Mark mark.Bv) = meant (λ t. (class.Mem, t)) (by_first type_row)
-typing_row _ = none
+abbrev pub typing_row : TypingStart → Rel (Class × TypeText)
+typing_row (typing.Class c) = meant (λ p. (c, p.1)) (seq (one (class_mark c)) type_or_bool)
+typing_row typing.Type = meant (λ t. (class.Mem, t)) a_type
+typing_row typing.None = none
+
+abbrev pub a_typing : Rel (Class × TypeText)
+a_typing = by_first (λ w. typing_row (typing_start w))
 
 -- whether a word begins a declaration
 abbrev pub declares : Sort → Bool
@@ -51,7 +63,7 @@ abbrev pub names : Rel (List NameAt)
 names = meant (λ p. p.0 ∷ p.1.0) (seq name (several next_name (one mark.Semicolon)))
 
 abbrev pub a_decl : Rel FileDecl
-a_decl = meant (λ p. record { class = p.0.0; ty = p.0.1; names = p.1 }) (seq (by_first typing_row) names)
+a_decl = meant (λ p. record { class = p.0.0; ty = p.0.1; names = p.1 }) (seq a_typing names)
 
 -- `?` for an input, `!` for an output
 abbrev pub dir_row : Sort → Rel Dir
@@ -61,15 +73,15 @@ dir_row _ = none
 
 -- a formal of a class and a type
 abbrev pub directed : Class × TypeText → Rel FileFormal
-directed typing = meant (λ p. record { class = typing.0; dir = p.0; ty = typing.1; name = p.1 }) (seq (by_first dir_row) name)
+directed known = meant (λ p. record { class = known.0; dir = p.0; ty = known.1; name = p.1 }) (seq (by_first dir_row) name)
 
 abbrev pub typed_formal : Rel FileFormal
-typed_formal = meant (λ p. record { class = p.0.0; dir = p.1.0; ty = p.0.1; name = p.1.1 }) (seq (by_first typing_row) (seq (by_first dir_row) name))
+typed_formal = meant (λ p. record { class = p.0.0; dir = p.1.0; ty = p.0.1; name = p.1.1 }) (seq a_typing (seq (by_first dir_row) name))
 
 -- a formal after those before it: without class and type it takes both from the last one
 abbrev pub formal_row : Option (Class × TypeText) → Sort → Rel FileFormal
-formal_row (Some typing) (sort.Mark mark.Question) = directed typing
-formal_row (Some typing) (sort.Mark mark.Exclamation) = directed typing
+formal_row (Some known) (sort.Mark mark.Question) = directed known
+formal_row (Some known) (sort.Mark mark.Exclamation) = directed known
 formal_row last _ = typed_formal
 
 abbrev pub typing_of : FileFormal → Option (Class × TypeText)

@@ -19,6 +19,7 @@ use Rattle.qz_reader.specs.declared.words.TypeStart.{TypeStart}
 use Rattle.qz_reader.specs.declared.words.TypeStart.TheVariants as type
 use Rattle.qz_reader.specs.declared.words.TypingStart.{TypingStart}
 use Rattle.qz_reader.specs.declared.words.TypingStart.TheVariants as typing
+use Rattle.qz_syntax.specs.declared.declarations.Class.{Class}
 use Rattle.qz_syntax.specs.declared.declarations.Class.TheVariants as class
 use Rattle.qz_values.specs.declared.Op1.{Op1}
 use Rattle.qz_values.specs.declared.Op1.TheVariants as op1
@@ -137,6 +138,14 @@ typing_start (sort.Mark mark.Mem) = typing.Class class.Mem
 typing_start (sort.Mark mark.Bool) = typing.Type
 typing_start (sort.Mark mark.Bv) = typing.Type
 typing_start _ = typing.None
+
+abbrev pub class_mark : Class → Mark
+class_mark class.Event = mark.Event
+class_mark class.Mem = mark.Mem
+
+abbrev pub is_comma : Sort → Bool
+is_comma (sort.Mark mark.Comma) = true
+is_comma _ = false
 
 -- How strongly a form binds: `?:` 1, `->` 2, `|` 3, `^` 4, `&` 5, comparisons 6, `+` and `-` 7, `@` 8,
 -- `!` and `~` 9, selections and operands 10.

@@ -8,6 +8,7 @@
 #![tactic(auto)]
 
 mod cursor;
+mod declarations;
 mod expressions;
 mod statement_parts;
 mod words;

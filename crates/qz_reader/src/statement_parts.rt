@@ -11,11 +11,7 @@ use qz_syntax::{Cond, FileExpr, FileStmt, NameAt, Target};
 use std::alloc::Global;
 
 /// A condition in its parentheses.
-pub(crate) fn condition(
-    alloc: Global,
-    cursor: &mut Cursor<'_>,
-    room: u32,
-) -> Result<Cond, Fault>
+pub(crate) fn condition(alloc: Global, cursor: &mut Cursor<'_>, room: u32) -> Result<Cond, Fault>
     ensures { 1 ≤ room → Reads a_cond room cursor.old cursor.new result }
 {
     let at = cursor.pass(Mark::OpenParen)?;
