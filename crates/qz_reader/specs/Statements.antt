@@ -10,9 +10,11 @@ use Rattle.qz_syntax.specs.declared.file_statements.FileStmt.TheVariants as stmt
 use Rattle.qz_reader.specs.declared.words.Sort.{Sort}
 use Rattle.qz_reader.specs.declared.words.Sort.TheVariants as sort
 use Rattle.qz_reader.specs.declared.words.Mark.TheVariants as mark
+use Rattle.qz_reader.specs.declared.words.EmitStart.{EmitStart}
+use Rattle.qz_reader.specs.declared.words.EmitStart.TheVariants as emit
 use Rattle.qz_reader.specs.declared.words.TargetStart.{TargetStart}
 use Rattle.qz_reader.specs.declared.words.TargetStart.TheVariants as start
-use Rattle.qz_reader.specs.Words.{first, target_start}
+use Rattle.qz_reader.specs.Words.{first, emit_start, target_start}
 use Rattle.qz_reader.specs.Phrases.{Rel, Kind, none, one, name, seq, meant, by_first, nothing, stop, many, several}
 use Rattle.qz_reader.specs.Expressions.{an_expr}
 use Rattle.qz_reader.specs.Declarations.{declares, a_decl}
@@ -66,12 +68,15 @@ named_row n (sort.Mark mark.OpenParen) levels = meant (λ p. stmt.Call n p.1.0) 
 named_row n (sort.Mark mark.Colon) levels = meant (λ p. p.1) (seq (one mark.Colon) (by_first (λ w. resting_row (Some n) w levels)))
 named_row n _ levels = none
 
--- what follows `emit`
-abbrev pub emitted_row : Sort → Rel Target
-emitted_row (sort.Mark mark.OpenParen) = meant (λ p. p.1.0) (seq (one mark.OpenParen) (seq a_target (one mark.CloseParen)))
-emitted_row _ = a_target
+-- what follows `emit`: a target, or one in parentheses
+abbrev pub emitted_row : EmitStart → Rel Target
+emitted_row emit.Paren = meant (λ p. p.1.0) (seq (one mark.OpenParen) (seq a_target (one mark.CloseParen)))
+emitted_row emit.Target = a_target
 
--- what begins a statement
+abbrev pub emitted : Rel Target
+emitted = by_first (λ w. emitted_row (emit_start w))
+
+-- `abort S when (e);` and `suspend S when (e);`, with their variants
 abbrev pub preempting_row : Rel FileStmt → Bool → Bool → Sort → Kind FileStmt
 preempting_row inner weak immediate (sort.Mark mark.Abort) levels =
     meant (λ p. stmt.Abort (record { weak = weak; immediate = immediate }) p.1.0 p.1.1.1.0) (seq (one mark.Abort) (seq inner (seq (one mark.When) (seq (a_cond levels) (one mark.Semicolon)))))
@@ -127,7 +132,7 @@ stmt_row inner (sort.Mark mark.Abort) levels = preempting_row inner false false 
 stmt_row inner (sort.Mark mark.Suspend) levels = preempting_row inner false false (sort.Mark mark.Suspend) levels
 stmt_row inner sort.Name levels = λ s words rest. (n : NameAt) × (between : List _) × name n words between × by_first (λ w. named_row n w levels) s between rest
 stmt_row inner (sort.Mark mark.Next) levels = meant (λ p. stmt.Assign p.0 p.1.0 p.1.1) (seq next_target (a_value levels))
-stmt_row inner (sort.Mark mark.Emit) levels = meant (λ p. stmt.Emit p.1.0) (seq (one mark.Emit) (seq (by_first emitted_row) (one mark.Semicolon)))
+stmt_row inner (sort.Mark mark.Emit) levels = meant (λ p. stmt.Emit p.1.0) (seq (one mark.Emit) (seq emitted (one mark.Semicolon)))
 stmt_row inner (sort.Mark mark.OpenBrace) levels = meant (λ b. stmt.Block b) (a_block inner)
 stmt_row inner (sort.Mark mark.If) levels = meant (λ p. stmt.If p.1.0 p.1.1.0 p.1.1.1) (seq (one mark.If) (seq (a_cond levels) (seq inner (by_first (else_row inner)))))
 stmt_row inner (sort.Mark mark.Do) levels = meant (λ p. stmt.DoWhile p.1.0 p.1.1.1.0) (seq (one mark.Do) (seq inner (seq (one mark.While) (seq (a_cond levels) (one mark.Semicolon)))))

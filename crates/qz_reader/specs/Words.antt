@@ -15,6 +15,8 @@ use Rattle.qz_reader.specs.declared.words.IndexStart.{IndexStart}
 use Rattle.qz_reader.specs.declared.words.IndexStart.TheVariants as index
 use Rattle.qz_reader.specs.declared.words.TargetStart.{TargetStart}
 use Rattle.qz_reader.specs.declared.words.TargetStart.TheVariants as target
+use Rattle.qz_reader.specs.declared.words.EmitStart.{EmitStart}
+use Rattle.qz_reader.specs.declared.words.EmitStart.TheVariants as emit
 use Rattle.qz_reader.specs.declared.words.TypeStart.{TypeStart}
 use Rattle.qz_reader.specs.declared.words.TypeStart.TheVariants as type
 use Rattle.qz_reader.specs.declared.words.TypingStart.{TypingStart}
@@ -146,6 +148,11 @@ class_mark class.Mem = mark.Mem
 abbrev pub is_comma : Sort → Bool
 is_comma (sort.Mark mark.Comma) = true
 is_comma _ = false
+
+-- what a word begins, after `emit`
+abbrev pub emit_start : Sort → EmitStart
+emit_start (sort.Mark mark.OpenParen) = emit.Paren
+emit_start _ = emit.Target
 
 -- How strongly a form binds: `?:` 1, `->` 2, `|` 3, `^` 4, `&` 5, comparisons 6, `+` and `-` 7, `@` 8,
 -- `!` and `~` 9, selections and operands 10.

@@ -15,5 +15,6 @@ mod words;
 
 pub use cursor::Fault;
 pub use words::{
-    HeadStart, IndexStart, Mark, Sort, Spot, TailStart, TargetStart, TypeStart, TypingStart, Word,
+    EmitStart, HeadStart, IndexStart, Mark, Sort, Spot, TailStart, TargetStart, TypeStart,
+    TypingStart, Word,
 };

@@ -1,12 +1,12 @@
 //! Reads the parts of statements that hold no statement.
 
 ghost use Rattle.std.specs.Prelude.{ℕ, ◌≤◌};
-ghost use Rattle.qz_reader.specs.Statements.{a_cond, a_value, next_target, a_target, awaited};
+ghost use Rattle.qz_reader.specs.Statements.{a_cond, a_value, next_target, a_target, awaited, emitted, next_arg};
 ghost use Rattle.qz_reader.specs.Reading.{Reads};
 
 use crate::cursor::{Cursor, Fault};
 use crate::expressions::expression;
-use crate::words::{Mark, TargetStart};
+use crate::words::{EmitStart, Mark, TargetStart};
 use qz_syntax::{Cond, FileExpr, FileStmt, NameAt, Target};
 use std::alloc::Global;
 
@@ -77,4 +77,35 @@ pub(crate) fn awaited(
         immediate,
         cond,
     })
+}
+
+/// What follows `emit`: a target, or one in parentheses.
+pub(crate) fn emitted(cursor: &mut Cursor<'_>) -> Result<Target, Fault>
+    ensures { (room : ℕ) → Reads (λ _. emitted) room cursor.old cursor.new result }
+{
+    match cursor.peek().emit() {
+        EmitStart::Paren => {
+            cursor.pass(Mark::OpenParen)?;
+            let inside = target(cursor)?;
+            cursor.pass(Mark::CloseParen)?;
+            Ok(inside)
+        }
+        EmitStart::Target => {
+            let plain = target(cursor)?;
+            Ok(plain)
+        }
+    }
+}
+
+/// `, e`
+pub(crate) fn next_argument(
+    alloc: Global,
+    cursor: &mut Cursor<'_>,
+    room: u32,
+) -> Result<FileExpr, Fault>
+    ensures { 1 ≤ room → Reads next_arg room cursor.old cursor.new result }
+{
+    cursor.pass(Mark::Comma)?;
+    let value = expression(alloc, cursor, room)?;
+    Ok(value)
 }

@@ -1,7 +1,7 @@
 //! The words of a text, as the grammar sees them.
 
 ghost use Rattle.std.specs.Prelude.{◌≡◌};
-ghost use Rattle.qz_reader.specs.Words.{sort_of, head_start, tail_start, index_start, target_start, type_start, typing_start, bool_mark, unary_mark, binary_mark, tail_strength, tail_left, binary_right, head_strength};
+ghost use Rattle.qz_reader.specs.Words.{sort_of, head_start, tail_start, index_start, emit_start, target_start, type_start, typing_start, bool_mark, unary_mark, binary_mark, tail_strength, tail_left, binary_right, head_strength};
 
 use qz_syntax::{Class, Name};
 use qz_values::{Op1, Op2};
@@ -177,6 +177,15 @@ pub enum TargetStart {
     None,
 }
 
+/// What a word begins, after `emit`.
+#[derive(Clone, Copy, Debug)]
+pub enum EmitStart {
+    /// `(` and a target.
+    Paren,
+    /// A target, if anything.
+    Target,
+}
+
 /// What a word begins, where a type is wanted.
 #[derive(Clone, Copy, Debug)]
 pub enum TypeStart {
@@ -207,6 +216,19 @@ impl Sort {
             },
             Sort::Name => TargetStart::Name,
             Sort::Number | Sort::Literal | Sort::End => TargetStart::None,
+        }
+    }
+
+    /// What the word begins, after `emit`.
+    pub fn emit(self) -> EmitStart
+        ensures { result ≡ emit_start self }
+    {
+        match self {
+            Sort::Mark(mark) => match mark {
+                Mark::OpenParen => EmitStart::Paren,
+                _ => EmitStart::Target,
+            },
+            Sort::Name | Sort::Number | Sort::Literal | Sort::End => EmitStart::Target,
         }
     }
 
