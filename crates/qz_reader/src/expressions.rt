@@ -3,7 +3,9 @@
 ghost use Rattle.std.specs.Prelude.{ℕ, ◌≡◌, ◌≤◌, IfOk, IfErr};
 ghost use Rattle.qz_reader.specs.declared.cursor.Fault.TheVariants as fault;
 ghost use Rattle.qz_reader.specs.Expressions.{an_expr, applied, after_index, indices};
-ghost use Rattle.qz_reader.specs.Reading.{Reads};
+ghost use Rattle.qz_reader.specs.declared.words.HeadStart.TheVariants as the_head;
+ghost use Rattle.qz_reader.specs.Words.{first, head_start};
+ghost use Rattle.qz_reader.specs.Reading.{upcoming, Reads};
 ghost use Rattle.qz_reader.specs.Parts.{head_need, ReadsPart, ReadsOperand, ReadsTail};
 
 use crate::cursor::{Cursor, Fault};
@@ -11,7 +13,7 @@ use crate::words::{
     HeadStart, IndexStart, Mark, TailStart, binary_mark, binary_right, bool_mark, unary_mark,
 };
 use qz_syntax::FileExpr;
-use qz_values::Op2;
+use qz_values::{Op1, Op2};
 use sqlite_items::Boxed;
 use std::alloc::Global;
 
@@ -101,31 +103,49 @@ fn operand(alloc: Global, cursor: &mut Cursor<'_>, room: u32) -> Result<Part, Fa
                 height: 1,
             })
         }
-        HeadStart::Paren => {
-            let at = cursor.pass(Mark::OpenParen)?;
-            let inner = climb(alloc, cursor, 1, room - 1)?;
-            cursor.pass(Mark::CloseParen)?;
-            let height = inner.height + 1;
-            let inner = Boxed::new(alloc, inner.expr)?;
-            Ok(Part {
-                expr: FileExpr::Paren { at, inner },
-                strength: 10,
-                height,
-            })
-        }
-        HeadStart::Unary(op) => {
-            let at = cursor.pass(unary_mark(op))?;
-            let inner = climb(alloc, cursor, 9, room - 1)?;
-            let height = inner.height + 1;
-            let arg = Boxed::new(alloc, inner.expr)?;
-            Ok(Part {
-                expr: FileExpr::Un { op, at, arg },
-                strength: 9,
-                height,
-            })
-        }
+        HeadStart::Paren => parenthesised(alloc, cursor, room),
+        HeadStart::Unary(op) => prefixed(alloc, cursor, op, room),
         HeadStart::None => Err(Fault::Parse),
     }
+}
+
+/// `( e )`, where the parenthesis is next.
+#[cycle(expression)]
+fn parenthesised(alloc: Global, cursor: &mut Cursor<'_>, room: u32) -> Result<Part, Fault>
+    ensures reads { the_head.Paren ≡ head_start (first (upcoming cursor.old)) → ReadsOperand room cursor.old cursor.new result }
+{
+    if room < 2 {
+        return Err(Fault::Deep);
+    }
+    let at = cursor.pass(Mark::OpenParen)?;
+    let inner = climb(alloc, cursor, 1, room - 1)?;
+    cursor.pass(Mark::CloseParen)?;
+    let height = inner.height + 1;
+    let boxed = Boxed::new(alloc, inner.expr)?;
+    Ok(Part {
+        expr: FileExpr::Paren { at, inner: boxed },
+        strength: 10,
+        height,
+    })
+}
+
+/// An operator with one operand, which is next, and the operand.
+#[cycle(expression)]
+fn prefixed(alloc: Global, cursor: &mut Cursor<'_>, op: Op1, room: u32) -> Result<Part, Fault>
+    ensures reads { the_head.Unary op ≡ head_start (first (upcoming cursor.old)) → ReadsOperand room cursor.old cursor.new result }
+{
+    if room < 2 {
+        return Err(Fault::Deep);
+    }
+    let at = cursor.pass(unary_mark(op))?;
+    let inner = climb(alloc, cursor, 9, room - 1)?;
+    let height = inner.height + 1;
+    let arg = Boxed::new(alloc, inner.expr)?;
+    Ok(Part {
+        expr: FileExpr::Un { op, at, arg },
+        strength: 9,
+        height,
+    })
 }
 
 /// `i}` or `h:l}`, after the brace that opens a selection.

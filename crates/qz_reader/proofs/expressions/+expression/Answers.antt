@@ -2,6 +2,7 @@ use Rattle.std.proofs.Common.{ℕ, ◌≡◌, ◌≤◌, ◌+◌, ◌-◌, ◌�
 use Rattle.std.proofs.lemmas.Result.{err_from_is_err_and}
 use Rattle.qz_syntax.specs.declared.file_expressions.FileExpr.TheVariants as expr
 use Rattle.qz_reader.specs.declared.words.Mark.TheVariants as mark
+use Rattle.qz_reader.specs.declared.words.HeadStart.TheVariants as head
 use Rattle.qz_reader.specs.declared.words.Word.TheVariants as word
 use Rattle.qz_reader.specs.declared.expressions.Tail.TheVariants as tailed
 use Rattle.qz_reader.specs.Words.{head_start, head_strength, tail_start, tail_strength, tail_left, binary_right, strength}
@@ -62,82 +63,66 @@ pub operand-returns-in_ok-name-in-Name : goal.operand-returns-in_ok-name-in-Name
 operand-returns-in_ok-name-in-Name t c =
     record { reads = (operand_sized (start_is head_start c.args.cursor.now c.peek.ensures c.head-start.ensures c.in-Name.is) (omega (arith, c.if-room-need.false, c.need.ensures, ap head_need c.in-Name.is)) (meaning_reads expr.Name (c.in_ok-name-in-Name.ensures 0)) least_none, ap head_strength (start_is head_start c.args.cursor.now c.peek.ensures c.head-start.ensures c.in-Name.is)) }
 
-pub operand-returns-in_err-at-in-Paren : goal.operand-returns-in_err-at-in-Paren
-operand-returns-in_err-at-in-Paren t c =
-    record { reads = let returned = err_from_is_err_and c.from_residual-in_err-at-in-Paren.result c.from_residual-in_err-at-in-Paren.ensures.1 in rw (returned.1, returned.2) (failed c.in_err-at-in-Paren.field-0.0 (c.in_err-at-in-Paren.ensures (c.args.room - 1)) (λ f. operand_fails (start_is head_start c.args.cursor.now c.peek.ensures c.head-start.ensures c.in-Paren.is) (omega (arith, c.if-room-need.false, c.need.ensures, ap head_need c.in-Paren.is)) (meaning_fails (λ p. expr.Paren p.0 p.1.0) (seq_first (inside (c.args.room - 1) (omega (arith, c.if-room-need.false, c.need.ensures, ap head_need c.in-Paren.is))) (λ words h. refl) f)))) }
+pub parenthesised-returns-in_err-at : goal.parenthesised-returns-in_err-at
+parenthesised-returns-in_err-at t c =
+    record { reads = λ here. let returned = err_from_is_err_and c.from_residual.result c.from_residual.ensures.1 in rw (returned.1, returned.2) (failed c.in_err-at.field-0.0 (c.in_err-at.ensures (c.args.room - 1)) (λ f. operand_fails here (omega (arith, c.if-room-lt2.false)) (meaning_fails (λ p. expr.Paren p.0 p.1.0) (seq_first (inside (c.args.room - 1) (omega (arith, c.if-room-lt2.false))) (λ words h. refl) f)))) }
 
-pub operand-overflow_sub-room : goal.operand-overflow_sub-room
-operand-overflow_sub-room t c =
-    (omega (arith, c.if-room-need.false, c.need.ensures, ap head_need c.in-Paren.is))
+pub parenthesised-returns-in_err-inner : goal.parenthesised-returns-in_err-inner
+parenthesised-returns-in_err-inner t c =
+    record { reads = λ here. let returned = err_from_is_err_and c.from_residual-in_err-inner.result c.from_residual-in_err-inner.ensures.1 in rw (returned.1, returned.2) (failed c.in_err-inner.field-0.0 (c.in_err-inner.ensures.reads (omega arith) (omega arith)) (λ f. operand_fails here (omega (arith, c.if-room-lt2.false)) (meaning_fails (λ p. expr.Paren p.0 p.1.0) (seq_second (inside (c.args.room - 1) (omega (arith, c.if-room-lt2.false))) (λ words h. refl) (c.in_ok-at.ensures (c.args.room - 1)).it (seq_first close (λ words h. refl) f))))) }
 
-pub operand-climb-requires : goal.operand-climb-requires
-operand-climb-requires t c =
-    let some : 1 ≤ c.args.room = (omega (arith, c.if-room-need.false, c.need.ensures, ap head_need c.in-Paren.is)) in search rules
+pub parenthesised-returns-in_err-pass : goal.parenthesised-returns-in_err-pass
+parenthesised-returns-in_err-pass t c =
+    record { reads = λ here. let returned = err_from_is_err_and c.from_residual-in_err-pass.result c.from_residual-in_err-pass.ensures.1 in rw (returned.1, returned.2) (failed c.in_err-pass.field-0.0 (c.in_err-pass.ensures (c.args.room - 1)) (λ f. operand_fails here (omega (arith, c.if-room-lt2.false)) (meaning_fails (λ p. expr.Paren p.0 p.1.0) (seq_second (inside (c.args.room - 1) (omega (arith, c.if-room-lt2.false))) (λ words h. refl) (c.in_ok-at.ensures (c.args.room - 1)).it (seq_second close (λ words h. refl) (raised (c.args.room - 1) (c.in_ok-inner.ensures.reads (omega arith) (omega arith)).low (c.in_ok-inner.ensures.reads (omega arith) (omega arith)).it).it f))))) }
 
-pub operand-returns-in_err-inner-in-Paren : goal.operand-returns-in_err-inner-in-Paren
-operand-returns-in_err-inner-in-Paren t c =
-    record { reads = let returned = err_from_is_err_and c.from_residual-in_err-inner-in-Paren.result c.from_residual-in_err-inner-in-Paren.ensures.1 in rw (returned.1, returned.2) (failed c.in_err-inner-in-Paren.field-0.0 (c.in_err-inner-in-Paren.ensures.reads (omega arith) (omega arith)) (λ f. operand_fails (start_is head_start c.args.cursor.now c.peek.ensures c.head-start.ensures c.in-Paren.is) (omega (arith, c.if-room-need.false, c.need.ensures, ap head_need c.in-Paren.is)) (meaning_fails (λ p. expr.Paren p.0 p.1.0) (seq_second (inside (c.args.room - 1) (omega (arith, c.if-room-need.false, c.need.ensures, ap head_need c.in-Paren.is))) (λ words h. refl) (c.in_ok-at-in-Paren.ensures (c.args.room - 1)).it (seq_first close (λ words h. refl) f))))) }
+pub parenthesised-overflow_add-height : goal.parenthesised-overflow_add-height
+parenthesised-overflow_add-height t c =
+    let some : 2 ≤ c.args.room = (omega (arith, c.if-room-lt2.false)) in
+    let low = (c.in_ok-inner.ensures.reads (omega arith) (omega arith)).low in omega (arith, low, some, c.ranges.room.fits)
 
-pub operand-returns-in_err-pass-in-Paren : goal.operand-returns-in_err-pass-in-Paren
-operand-returns-in_err-pass-in-Paren t c =
-    record { reads = let returned = err_from_is_err_and c.from_residual-in_err-pass-in-Paren.result c.from_residual-in_err-pass-in-Paren.ensures.1 in rw (returned.1, returned.2) (failed c.in_err-pass-in-Paren.field-0.0 (c.in_err-pass-in-Paren.ensures (c.args.room - 1)) (λ f. operand_fails (start_is head_start c.args.cursor.now c.peek.ensures c.head-start.ensures c.in-Paren.is) (omega (arith, c.if-room-need.false, c.need.ensures, ap head_need c.in-Paren.is)) (meaning_fails (λ p. expr.Paren p.0 p.1.0) (seq_second (inside (c.args.room - 1) (omega (arith, c.if-room-need.false, c.need.ensures, ap head_need c.in-Paren.is))) (λ words h. refl) (c.in_ok-at-in-Paren.ensures (c.args.room - 1)).it (seq_second close (λ words h. refl) (raised (c.args.room - 1) (c.in_ok-inner-in-Paren.ensures.reads (omega arith) (omega arith)).low (c.in_ok-inner-in-Paren.ensures.reads (omega arith) (omega arith)).it).it f))))) }
+pub parenthesised-returns-in_err-boxed : goal.parenthesised-returns-in_err-boxed
+parenthesised-returns-in_err-boxed t c =
+    record { reads = λ here. let returned = err_from_is_err_and c.from_residual-in_err-boxed.result c.from_residual-in_err-boxed.ensures.1 in rw (returned.1, returned.2) tt }
 
-pub operand-overflow_add-height : goal.operand-overflow_add-height
-operand-overflow_add-height t c =
-    let some : 2 ≤ c.args.room = (omega (arith, c.if-room-need.false, c.need.ensures, ap head_need c.in-Paren.is)) in
-    let low = (c.in_ok-inner-in-Paren.ensures.reads (omega arith) (omega arith)).low in omega (arith, low, some, c.ranges.room.fits)
-
-pub operand-returns-in_err-inner-in-Paren-2 : goal.operand-returns-in_err-inner-in-Paren-2
-operand-returns-in_err-inner-in-Paren-2 t c =
-    record { reads = let returned = err_from_is_err_and c.from_residual-in_err-inner-in-Paren-2.result c.from_residual-in_err-inner-in-Paren-2.ensures.1 in rw (returned.1, returned.2) tt }
-
-pub operand-returns-in_ok-inner-in-Paren-2 : goal.operand-returns-in_ok-inner-in-Paren-2
-operand-returns-in_ok-inner-in-Paren-2 t c =
-    let some : 2 ≤ c.args.room = (omega (arith, c.if-room-need.false, c.need.ensures, ap head_need c.in-Paren.is)) in
-    let inner = (c.in_ok-inner-in-Paren.ensures.reads (omega arith) (omega arith)) in
-    let closing = (c.in_ok-pass-in-Paren.ensures c.in_ok-inner-in-Paren.inner.height).it in
-    let boxed : c.in_ok-inner-in-Paren-2.inner ≡ c.in_ok-inner-in-Paren.inner.expr = search rules in
+pub parenthesised-returns : goal.parenthesised-returns
+parenthesised-returns t c =
+    let some : 2 ≤ c.args.room = (omega (arith, c.if-room-lt2.false)) in
+    let inner = (c.in_ok-inner.ensures.reads (omega arith) (omega arith)) in
+    let closing = (c.in_ok-pass.ensures c.in_ok-inner.inner.height).it in
+    let boxed : c.in_ok-boxed.boxed ≡ c.in_ok-inner.inner.expr = search rules in
     record {
-      reads = (
-        subst (λ e. Sized an_operand c.args.room (c.in_ok-inner-in-Paren.inner.height + 1) c.args.cursor.now c.pass-in-Paren-2.new.self (expr.Paren c.in_ok-at-in-Paren.at e)) (sym boxed) (operand_sized (start_is head_start c.args.cursor.now c.peek.ensures c.head-start.ensures c.in-Paren.is) (omega (arith, inner.low, some)) (meaning_reads (λ p. expr.Paren p.0 p.1.0) (seq_some (c.in_ok-at-in-Paren.ensures c.in_ok-inner-in-Paren.inner.height) (seq_reads inner.it.it closing)))
-            (least_meaning (λ p. expr.Paren p.0 p.1.0) (least_second (moves_on _ _ _ inner.it.it.moves closing.moves) (c.in_ok-at-in-Paren.ensures c.in_ok-inner-in-Paren.inner.height).it (least_first (always (one mark.CloseParen)) closing.moves (record { least = inner.least }))))),
-        ap head_strength (start_is head_start c.args.cursor.now c.peek.ensures c.head-start.ensures c.in-Paren.is),
+      reads = λ here. (
+        subst (λ e. Sized an_operand c.args.room (c.in_ok-inner.inner.height + 1) c.args.cursor.now c.pass-2.new.self (expr.Paren c.in_ok-at.at e)) (sym boxed) (operand_sized here (omega (arith, inner.low, some)) (meaning_reads (λ p. expr.Paren p.0 p.1.0) (seq_some (c.in_ok-at.ensures c.in_ok-inner.inner.height) (seq_reads inner.it.it closing)))
+            (least_meaning (λ p. expr.Paren p.0 p.1.0) (least_second (moves_on _ _ _ inner.it.it.moves closing.moves) (c.in_ok-at.ensures c.in_ok-inner.inner.height).it (least_first (always (one mark.CloseParen)) closing.moves (record { least = inner.least }))))),
+        ap head_strength here,
       );
     }
 
-pub operand-returns-in_err-at-in-Unary : goal.operand-returns-in_err-at-in-Unary
-operand-returns-in_err-at-in-Unary t c =
-    record { reads = let returned = err_from_is_err_and c.from_residual-in_err-at-in-Unary.result c.from_residual-in_err-at-in-Unary.ensures.1 in rw (returned.1, returned.2) (failed c.in_err-at-in-Unary.field-0.0 (subst (λ m. Reads (always (one m)) (c.args.room - 1) c.args.cursor.now c.pass-in-Unary.new.self (Err c.in_err-at-in-Unary.field-0.0)) c.unary_mark.ensures (c.in_err-at-in-Unary.ensures (c.args.room - 1))) (λ f. operand_fails (start_is head_start c.args.cursor.now c.peek.ensures c.head-start.ensures c.in-Unary.is) (omega (arith, c.if-room-need.false, c.need.ensures, ap head_need c.in-Unary.is)) (meaning_fails (λ p. expr.Un c.in-Unary.op p.0 p.1) (seq_first (filled 9 (c.args.room - 1) (omega arith) (omega arith) (omega (arith, c.if-room-need.false, c.need.ensures, ap head_need c.in-Unary.is))) (λ words h. refl) f)))) }
+pub prefixed-returns-in_err-at : goal.prefixed-returns-in_err-at
+prefixed-returns-in_err-at t c =
+    record { reads = λ here. let returned = err_from_is_err_and c.from_residual.result c.from_residual.ensures.1 in rw (returned.1, returned.2) (failed c.in_err-at.field-0.0 (subst (λ m. Reads (always (one m)) (c.args.room - 1) c.args.cursor.now c.pass.new.self (Err c.in_err-at.field-0.0)) c.unary_mark.ensures (c.in_err-at.ensures (c.args.room - 1))) (λ f. operand_fails here (omega (arith, c.if-room-lt2.false)) (meaning_fails (λ p. expr.Un c.args.op p.0 p.1) (seq_first (filled 9 (c.args.room - 1) (omega arith) (omega arith) (omega (arith, c.if-room-lt2.false))) (λ words h. refl) f)))) }
 
-pub operand-overflow_sub-room-in-Unary : goal.operand-overflow_sub-room-in-Unary
-operand-overflow_sub-room-in-Unary t c =
-    (omega (arith, c.if-room-need.false, c.need.ensures, ap head_need c.in-Unary.is))
+pub prefixed-returns-in_err-inner : goal.prefixed-returns-in_err-inner
+prefixed-returns-in_err-inner t c =
+    let opened = rw c.unary_mark.ensures at (c.in_ok-at.ensures (c.args.room - 1)) in
+    record { reads = λ here. let returned = err_from_is_err_and c.from_residual-in_err-inner.result c.from_residual-in_err-inner.ensures.1 in rw (returned.1, returned.2) (failed c.in_err-inner.field-0.0 (c.in_err-inner.ensures.reads (omega arith) (omega arith)) (λ f. operand_fails here (omega (arith, c.if-room-lt2.false)) (meaning_fails (λ p. expr.Un c.args.op p.0 p.1) (seq_second (filled 9 (c.args.room - 1) (omega arith) (omega arith) (omega (arith, c.if-room-lt2.false))) (λ words h. refl) opened.it f)))) }
 
-pub operand-climb-requires-in-Unary : goal.operand-climb-requires-in-Unary
-operand-climb-requires-in-Unary t c =
-    let some : 1 ≤ c.args.room = (omega (arith, c.if-room-need.false, c.need.ensures, ap head_need c.in-Unary.is)) in search rules
+pub prefixed-overflow_add-height : goal.prefixed-overflow_add-height
+prefixed-overflow_add-height t c =
+    let some : 2 ≤ c.args.room = (omega (arith, c.if-room-lt2.false)) in
+    let low = (c.in_ok-inner.ensures.reads (omega arith) (omega arith)).low in omega (arith, low, some, c.ranges.room.fits)
 
-pub operand-returns-in_err-inner-in-Unary : goal.operand-returns-in_err-inner-in-Unary
-operand-returns-in_err-inner-in-Unary t c =
-    let opened = rw c.unary_mark.ensures at (c.in_ok-at-in-Unary.ensures (c.args.room - 1)) in
-    record { reads = let returned = err_from_is_err_and c.from_residual-in_err-inner-in-Unary.result c.from_residual-in_err-inner-in-Unary.ensures.1 in rw (returned.1, returned.2) (failed c.in_err-inner-in-Unary.field-0.0 (c.in_err-inner-in-Unary.ensures.reads (omega arith) (omega arith)) (λ f. operand_fails (start_is head_start c.args.cursor.now c.peek.ensures c.head-start.ensures c.in-Unary.is) (omega (arith, c.if-room-need.false, c.need.ensures, ap head_need c.in-Unary.is)) (meaning_fails (λ p. expr.Un c.in-Unary.op p.0 p.1) (seq_second (filled 9 (c.args.room - 1) (omega arith) (omega arith) (omega (arith, c.if-room-need.false, c.need.ensures, ap head_need c.in-Unary.is))) (λ words h. refl) opened.it f)))) }
+pub prefixed-returns-in_err-arg : goal.prefixed-returns-in_err-arg
+prefixed-returns-in_err-arg t c =
+    record { reads = λ here. let returned = err_from_is_err_and c.from_residual-in_err-arg.result c.from_residual-in_err-arg.ensures.1 in rw (returned.1, returned.2) tt }
 
-pub operand-overflow_add-height-in-Unary : goal.operand-overflow_add-height-in-Unary
-operand-overflow_add-height-in-Unary t c =
-    let some : 2 ≤ c.args.room = (omega (arith, c.if-room-need.false, c.need.ensures, ap head_need c.in-Unary.is)) in
-    let low = (c.in_ok-inner-in-Unary.ensures.reads (omega arith) (omega arith)).low in omega (arith, low, some, c.ranges.room.fits)
-
-pub operand-returns-in_err-arg-in-Unary : goal.operand-returns-in_err-arg-in-Unary
-operand-returns-in_err-arg-in-Unary t c =
-    record { reads = let returned = err_from_is_err_and c.from_residual-in_err-arg-in-Unary.result c.from_residual-in_err-arg-in-Unary.ensures.1 in rw (returned.1, returned.2) tt }
-
-pub operand-returns-in_ok-arg-in-Unary : goal.operand-returns-in_ok-arg-in-Unary
-operand-returns-in_ok-arg-in-Unary t c =
-    let some : 2 ≤ c.args.room = (omega (arith, c.if-room-need.false, c.need.ensures, ap head_need c.in-Unary.is)) in
-    let inner = (c.in_ok-inner-in-Unary.ensures.reads (omega arith) (omega arith)) in
-    let opened = rw c.unary_mark.ensures at (c.in_ok-at-in-Unary.ensures c.in_ok-inner-in-Unary.inner.height) in
-    let boxed : c.in_ok-arg-in-Unary.arg ≡ c.in_ok-inner-in-Unary.inner.expr = search rules in
-    record { reads = (subst (λ e. Sized an_operand c.args.room (c.in_ok-inner-in-Unary.inner.height + 1) c.args.cursor.now c.climb-in-Unary.new.cursor (expr.Un c.in-Unary.op c.in_ok-at-in-Unary.at e)) (sym boxed) (operand_sized (start_is head_start c.args.cursor.now c.peek.ensures c.head-start.ensures c.in-Unary.is) (omega (arith, inner.low, some)) (meaning_reads (λ p. expr.Un c.in-Unary.op p.0 p.1) (seq_some opened inner.it.it)) (least_meaning (λ p. expr.Un c.in-Unary.op p.0 p.1) (least_second inner.it.it.moves opened.it (record { least = inner.least })))), ap head_strength (start_is head_start c.args.cursor.now c.peek.ensures c.head-start.ensures c.in-Unary.is)) }
+pub prefixed-returns : goal.prefixed-returns
+prefixed-returns t c =
+    let some : 2 ≤ c.args.room = (omega (arith, c.if-room-lt2.false)) in
+    let inner = (c.in_ok-inner.ensures.reads (omega arith) (omega arith)) in
+    let opened = rw c.unary_mark.ensures at (c.in_ok-at.ensures c.in_ok-inner.inner.height) in
+    let boxed : c.in_ok-arg.arg ≡ c.in_ok-inner.inner.expr = search rules in
+    record { reads = λ here. (subst (λ e. Sized an_operand c.args.room (c.in_ok-inner.inner.height + 1) c.args.cursor.now c.climb.new.cursor (expr.Un c.args.op c.in_ok-at.at e)) (sym boxed) (operand_sized here (omega (arith, inner.low, some)) (meaning_reads (λ p. expr.Un c.args.op p.0 p.1) (seq_some opened inner.it.it)) (least_meaning (λ p. expr.Un c.args.op p.0 p.1) (least_second inner.it.it.moves opened.it (record { least = inner.least })))), ap head_strength here) }
 
 pub continuation-returns-in_err-at-in-Binary : goal.continuation-returns-in_err-at-in-Binary
 continuation-returns-in_err-at-in-Binary t c =
@@ -259,3 +244,15 @@ climb-loop-alloc-smaller t c =
 pub climb-loop-alloc-preserved : goal.climb-loop-alloc-preserved
 climb-loop-alloc-preserved t c =
     λ pos nine. so_far_same c.in_ok-applied.field-0 c.strength-in-loop-alloc.result (c.max.result + 1) c.in_ok-applied.ensures.made (c.strength-in-loop-alloc.ensures ∙ ap tail_strength (c.tail-start.ensures ∙ ap tail_start c.peek.ensures)) (omega (arith, c.max.ensures)) (one_more c.args.least c.args.room c.args.cursor.now c.loop-alloc.left.expr c.loop-alloc.left.strength c.loop-alloc.left.height c.loop-alloc.cursor pos (c.loop-alloc.invariant pos nine) (omega (arith, c.if-strength-least.false, c.strength.ensures, ap tail_strength (c.tail-start.ensures ∙ ap tail_start c.peek.ensures))) c.continuation.new.cursor c.in_ok-next.next.tail c.in_ok-next.next.height c.if-left-room.false (omega (arith, c.if-left.false, c.left.ensures, ap tail_left (c.tail-start.ensures ∙ ap tail_start c.peek.ensures))) c.in_ok-next.ensures.reads)
+
+pub operand-returns-in-Paren : goal.operand-returns-in-Paren
+operand-returns-in-Paren t c = record { reads = c.parenthesised.ensures.reads (start_is head_start c.args.cursor.now c.peek.ensures c.head-start.ensures c.in-Paren.is) }
+
+pub operand-returns-in-Unary : goal.operand-returns-in-Unary
+operand-returns-in-Unary t c = record { reads = c.prefixed.ensures.reads (start_is head_start c.args.cursor.now c.peek.ensures c.head-start.ensures c.in-Unary.is) }
+
+pub parenthesised-returns-then-room-lt2 : goal.parenthesised-returns-then-room-lt2
+parenthesised-returns-then-room-lt2 t c = record { reads = λ here. operand_deep c.args.cursor.now (head.Paren) c.args.room here c.if-room-lt2.true }
+
+pub prefixed-returns-then-room-lt2 : goal.prefixed-returns-then-room-lt2
+prefixed-returns-then-room-lt2 t c = record { reads = λ here. operand_deep c.args.cursor.now (head.Unary c.args.op) c.args.room here c.if-room-lt2.true }
