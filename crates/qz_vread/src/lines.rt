@@ -41,7 +41,7 @@ impl Draft {
             Stage::Clock => Ok(self.take_clock(line)),
             Stage::Port => self.take_port(alloc, line),
             Stage::PortsEnd => Ok(self.take_fixed(line, b");", Stage::Net)),
-            Stage::Net => self.take_net(alloc, line),
+            Stage::Net => self.take_net(line),
             Stage::Assign(ty) => self.take_assign(ty, line),
             Stage::Output => self.take_output(line),
             Stage::Initial => self.take_value(line),
@@ -153,7 +153,7 @@ impl Draft {
     }
 
     /// `  reg Wr_K;`, if there is no wire so far, `  wire Ww_K;`, or what comes after the wires.
-    fn take_net(&mut self, alloc: Global, line: &[u8]) -> Result<bool, AllocError>
+    fn take_net(&mut self, line: &[u8]) -> Result<bool, AllocError>
         ensures { IfOk result (λ taken. Takes (IsNetStep self.old line.now) self.new taken) }
     {
         if let Some(text) = strip(line, b"  reg ") {
