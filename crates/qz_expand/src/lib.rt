@@ -11,4 +11,5 @@ mod tests;
 mod texts;
 mod whole;
 
+pub use texts::spelled;
 pub use whole::expand_one;

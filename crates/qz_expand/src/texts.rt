@@ -89,8 +89,8 @@ fn loop_texts(alloc: Global, loops: u32) -> Result<Items<Text>, AllocError>
     Ok(Items::from_vec(texts))
 }
 
-/// A name's bytes.
-fn spelled(name: &Name) -> &str
+/// A name's text, which a contract sees as bytes.
+pub fn spelled(name: &Name) -> &str
     ensures { result.now ≡ encode_utf8_all name.now }
 {
     name.as_str()

@@ -77,10 +77,15 @@ module _ (known : List Know) (delayed : List Later) where
       before = λ k other less h. absurd (omega (arith, less));
     }
 
-found_or : {A : Type 0} (xs : List A) (k : ℕ) (x d : A) → slice_get xs k ≡ Some x → get_or xs k d ≡ x
+pub found_or : {A : Type 0} (xs : List A) (k : ℕ) (x d : A) → slice_get xs k ≡ Some x → get_or xs k d ≡ x
 found_or [] k x d h = absurd (none≢some x h)
 found_or (y ∷ xs) zero x d h = some_same y x h
 found_or (y ∷ xs) (suc k) x d h = found_or xs k x d h
+
+pub none_or : {A : Type 0} (xs : List A) (k : ℕ) (d : A) → slice_get xs k ≡ None → get_or xs k d ≡ d
+none_or [] k d h = refl
+none_or (y ∷ xs) zero d h = absurd (none≢some y (sym h))
+none_or (y ∷ xs) (suc k) d h = none_or xs k d h
 
 abbrev of_value : ℕ → Doubt → Doubted
 of_value number why = record { number = number; delayed = false; doubt = why }

@@ -7,3 +7,6 @@ pub mod DoubtLemmas
 pub mod LastLemmas
 pub mod WalkedLemmas
 pub mod RunLemmas
+pub mod EnteringLemmas
+pub mod KeepingLemmas
+pub mod StepLemmas

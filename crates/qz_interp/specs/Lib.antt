@@ -8,3 +8,7 @@ pub mod FirstDoubts
 pub mod LastRounds
 pub mod Walked
 pub mod Beginning
+pub mod Entering
+pub mod Keeping
+pub mod InstanceTexts
+pub mod OnlySteps

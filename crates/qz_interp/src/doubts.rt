@@ -96,7 +96,8 @@ fn doubt_of_later(delayed: Later) -> Option<Doubt>
     }
 }
 
-fn known_at(known: &[Know], number: usize) -> Know
+/// What is known of the instance with this number: nothing where there is none.
+pub(crate) fn known_at(known: &[Know], number: usize) -> Know
     ensures { result ≡ slice_index_or known.now number Unknown }
 {
     match known.get(number) {
@@ -105,7 +106,8 @@ fn known_at(known: &[Know], number: usize) -> Know
     }
 }
 
-fn delayed_at(delayed: &[Later], number: usize) -> Later
+/// What is known of its delayed value.
+pub(crate) fn delayed_at(delayed: &[Later], number: usize) -> Later
     ensures { result ≡ slice_index_or delayed.now number later.Unknown }
 {
     match delayed.get(number) {

@@ -56,7 +56,7 @@ impl Slot {
 }
 
 /// The default without mark.
-fn new_store(default: Value) -> Store
+pub(crate) fn new_store(default: Value) -> Store
     ensures { result ≡ new_by default }
 {
     Store {

@@ -1,0 +1,69 @@
+//! The texts by which instances are named.
+
+ghost use Rattle.std.specs.Prelude.{◌≡◌, [], map, slice_index_or, IfOk};
+ghost use Rattle.qz_react.specs.Seeing.{instance_of};
+ghost use Rattle.qz_interp.specs.InstanceTexts.{variable_text, instance_text};
+
+use qz_expand::spelled;
+use qz_react::Instance;
+use qz_syntax::{Mark, Text, Var, Whole};
+use sqlite_items::at;
+use std::alloc::{AllocError, Global};
+
+/// The texts of the instances of a program.
+pub(crate) fn texts_of(
+    alloc: Global,
+    w: &Whole,
+    instances: &[Instance],
+) -> Result<Vec<Text>, AllocError>
+    ensures { IfOk result (λ texts. texts.items ≡ map (λ i. instance_text w.now (instance_of i)) instances.now) }
+{
+    let mut texts = Vec::new(alloc);
+    for instance in instances {
+        texts.push(instance_text(alloc, w, *instance)?)?;
+    }
+    Ok(texts)
+}
+
+/// A variable's text and, behind it, `@` and the text of the loop by which its scope was entered.
+fn instance_text(alloc: Global, w: &Whole, instance: Instance) -> Result<Text, AllocError>
+    ensures { IfOk result (λ text. text ≡ instance_text w.now (instance_of instance)) }
+{
+    let variable = variable_text(w, instance.variable);
+    match instance.mark {
+        Mark::Here | Mark::Zero => {
+            let text = String::from_str(alloc, variable)?;
+            Ok(Text::from_string(text))
+        }
+        Mark::Loop(number) => {
+            let turn = text_at(w.names.loops.as_slice(), number as usize);
+            let text = format!(in alloc; "{variable}@{turn}")?;
+            Ok(Text::from_string(text))
+        }
+    }
+}
+
+/// An output's name, or a local's text.
+fn variable_text(w: &Whole, variable: Var) -> &str
+    ensures { result.now ≡ variable_text w.now variable }
+{
+    match variable {
+        Var::Formal(n) => match at(w.module.formals.as_slice(), n as usize) {
+            Some(formal) => spelled(&formal.name),
+            None => "",
+        },
+        Var::Local(n) => text_at(w.names.locals.as_slice(), n as usize),
+        Var::Bound(_) => "",
+    }
+}
+
+/// The text with this number, or an empty one.
+#[tactic(auto, using(crate::proofs::DoubtLemmas::none_or))]
+pub(crate) fn text_at(texts: &[Text], number: usize) -> &str
+    ensures { result.now ≡ slice_index_or texts.now number [] }
+{
+    match at(texts, number) {
+        Some(text) => text.as_str(),
+        None => "",
+    }
+}
