@@ -1,5 +1,5 @@
 -- The slots once the step comes to what it meets, and the lists with which its rounds begin.
-use Rattle.std.proofs.Common.{◌≡◌, ◌≢◌, ◌<◌, ◌≤◌, ◌*◌, ◌+◌, ℕ, zero, suc, Bool, true, false, List, [], ◌∷◌, ◌++◌, map, length, Option, Some, None, get_or, replicate, refl, sym, ap, ap₂, subst, ◌∙◌, get_or-set_other, get_or-set_same, arith}
+use Rattle.std.proofs.Common.{◌≡◌, ◌≢◌, ◌<◌, ◌*◌, ◌+◌, ℕ, zero, suc, Bool, true, false, List, [], ◌∷◌, ◌++◌, map, length, Option, Some, None, get_or, replicate, refl, sym, ap, ap₂, subst, ◌∙◌, get_or-set_other, get_or-set_same, arith}
 use Rattle.std.specs.Prelude.{if◌then◌else◌, slice_get, slice_set}
 use Rattle.std.specs.Option.{option_map}
 use Rattle.std.specs.List.{AllByRecursion}
@@ -18,7 +18,6 @@ use Rattle.qz_meaning.specs.Layouts.{Met as Passed}
 use Rattle.qz_meaning.specs.Programs.{Program, program_of, instances_of, formals_of}
 use Rattle.qz_meaning.specs.Configurations.{Configuration, layout_of}
 use Rattle.qz_meaning.specs.Settling.{step_met, met_as, met_at, met_outputs}
-use Rattle.qz_meaning.specs.Rounds.{round}
 use Rattle.qz_meaning.proofs.Lists.{none≢some, some_same}
 use Rattle.qz_meaning.proofs.Orderly.{instance_self}
 use Rattle.qz_react.specs.declared.environments.Env.{Env}
@@ -29,10 +28,9 @@ use Rattle.qz_interp.specs.declared.slots.Entry.TheVariants.{Unmet, New, Kept}
 use Rattle.qz_interp.specs.declared.slots.Slot.{Slot}
 use Rattle.qz_interp.specs.Numbering.{AreDistinct}
 use Rattle.qz_interp.specs.Entering.{blank_slot, no_slot, first_entry, with_entry, with_met, entered, outputs_met}
-use Rattle.qz_interp.specs.FirstDoubts.{AreLists}
-use Rattle.qz_interp.specs.LastRounds.{HasNumber, HaveNumbers}
+use Rattle.qz_interp.specs.LastRounds.{HasNumber}
 use Rattle.qz_interp.specs.RoundTables.{IsSlotOf, AreSlotsOf, entry_with, entry_of}
-use Rattle.qz_interp.specs.Machines.{IsPrepared}
+use Rattle.qz_interp.specs.OnlySteps.{IsPrepared}
 use Rattle.qz_interp.proofs.Distinct.{instances_distinct}
 use Rattle.qz_interp.proofs.DoubtLemmas.{found_or}
 use Rattle.qz_interp.proofs.LastLemmas.{nothing_is_round_zero}

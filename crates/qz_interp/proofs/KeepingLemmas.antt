@@ -1,17 +1,15 @@
 -- What outputs keep and give by their numbers is what the definitions say.
-use Rattle.std.proofs.Common.{◌≡◌, ◌+◌, ℕ, zero, suc, Bool, true, false, List, [], ◌∷◌, ◌++◌, map, length, take, Option, Some, None, get_or, refl, sym, ap, ap₂, subst, ◌∙◌, add-one, zero-add, append_assoc, append-nil, arith}
+use Rattle.std.proofs.Common.{◌≡◌, ◌+◌, ℕ, zero, suc, Bool, true, false, List, [], ◌∷◌, ◌++◌, map, length, take, Option, Some, get_or, refl, sym, ap, ap₂, subst, ◌∙◌, add-one, zero-add, append_assoc, append-nil, arith}
 use Rattle.std.specs.Prelude.{if◌then◌else◌, slice_get}
 use Rattle.std.specs.Option.{option_map_or}
 use Rattle.std.specs.List.{range_with_len, AllByRecursion}
 use Rattle.qz_values.specs.declared.Ty.{Ty}
 use Rattle.qz_values.specs.declared.Ty.TheVariants as ty
-use Rattle.qz_values.specs.declared.Value.{Value}
 use Rattle.qz_values.specs.declared.Know.{Know}
 use Rattle.qz_values.specs.declared.Know.TheVariants as know
 use Rattle.qz_values.specs.Values.{default_of}
 use Rattle.qz_syntax.specs.declared.declarations.Class.{Class}
 use Rattle.qz_syntax.specs.declared.declarations.Class.TheVariants.{Event, Mem}
-use Rattle.qz_syntax.specs.declared.declarations.Dir.{Dir}
 use Rattle.qz_syntax.specs.declared.declarations.Dir.TheVariants as dir
 use Rattle.qz_syntax.specs.declared.declarations.Formal.{Formal}
 use Rattle.qz_syntax.specs.declared.expressions.Var.TheVariants as var
@@ -20,17 +18,16 @@ use Rattle.qz_syntax.specs.declared.places.Later.{Later}
 use Rattle.qz_syntax.specs.declared.places.Later.TheVariants as later
 use Rattle.qz_syntax.specs.declared.places.Store.{Store}
 use Rattle.qz_meaning.specs.Instances.{formal_instance}
-use Rattle.qz_meaning.specs.Layouts.{Met}
 use Rattle.qz_meaning.specs.Scenes.{default_store, store_of, store_from}
-use Rattle.qz_meaning.specs.Programs.{Program, program_of, instances_of, formals_of, numbers_in, is_same_direction, type_in}
+use Rattle.qz_meaning.specs.Programs.{program_of, instances_of, formals_of, numbers_in, is_same_direction, type_in}
 use Rattle.qz_meaning.specs.Configurations.{new_store}
 use Rattle.qz_meaning.specs.Settling.{Environment, passing, met_outputs}
 use Rattle.qz_meaning.specs.Rounds.{IsKnown, IsPlainAt}
 use Rattle.qz_meaning.proofs.Lists.{none≢some, some_same}
 use Rattle.qz_interp.specs.declared.slots.Slot.{Slot}
-use Rattle.qz_interp.specs.Entering.{blank_slot, no_slot}
+use Rattle.qz_interp.specs.Entering.{blank_slot}
 use Rattle.qz_interp.specs.FirstDoubts.{AreLists}
-use Rattle.qz_interp.specs.Keeping.{output_types, value_of_known, unmarked_by, kept_by, kept_at, outputs_kept}
+use Rattle.qz_interp.specs.Keeping.{output_types, value_of_known, kept_by, kept_at, outputs_kept}
 use Rattle.qz_interp.proofs.DoubtLemmas.{found_or}
 use Rattle.qz_interp.proofs.EnteringLemmas.{blank_at, output_at}
 

@@ -1,22 +1,19 @@
 -- What rounds come to is the only macro step, or why there is none.
-use Rattle.std.proofs.Common.{◌≡◌, ◌<◌, ℕ, List, [], map, length, take, Option, Some, None, refl, sym, ap, ap₂, subst, ◌∙◌}
-use Rattle.std.specs.Prelude.{MatchOption}
+use Rattle.std.proofs.Common.{◌≡◌, ℕ, List, map, length, take, Some, None, refl, sym, ap, ap₂, subst, ◌∙◌}
 use Rattle.std.proofs.lemmas.List.{length-map}
 use Rattle.std.specs.List.{AllByRecursion}
 use Rattle.qz_values.specs.declared.Value.{Value}
-use Rattle.qz_values.specs.declared.Know.{Know}
 use Rattle.qz_values.specs.declared.Know.TheVariants as know
 use Rattle.qz_syntax.specs.declared.declarations.Dir.TheVariants as dir
 use Rattle.qz_syntax.specs.declared.modules.Module.{Module}
 use Rattle.qz_syntax.specs.declared.places.Place.{Place}
 use Rattle.qz_syntax.specs.declared.places.Store.{Store}
-use Rattle.qz_syntax.specs.WellFormed.{IsWellFormed}
 use Rattle.qz_meaning.specs.Instances.{formal_instance}
 use Rattle.qz_meaning.specs.Programs.{Program, program_of, instances_of, formals_of}
 use Rattle.qz_meaning.specs.Configurations.{Configuration, layout_of}
-use Rattle.qz_meaning.specs.Settling.{Environment, body_under, step_met, met_at, met_outputs}
-use Rattle.qz_meaning.specs.Rounds.{round, IsLeast, IsPlain, IsPlainAt, IsDefinite}
-use Rattle.qz_meaning.specs.MacroSteps.{IsStep, IsSolution, next_place, next_configuration}
+use Rattle.qz_meaning.specs.Settling.{Environment, body_under, met_at, met_outputs}
+use Rattle.qz_meaning.specs.Rounds.{round, IsPlain, IsPlainAt, IsDefinite}
+use Rattle.qz_meaning.specs.MacroSteps.{IsStep, IsSolution, next_place}
 use Rattle.qz_meaning.specs.StepLaws.{HasOneStep}
 use Rattle.qz_meaning.proofs.Lists.{all_parts}
 use Rattle.qz_meaning.proofs.NextPlaces.{steps_lead}
@@ -27,14 +24,13 @@ use Rattle.qz_meaning.proofs.Solutions.{least_is_solution}
 use Rattle.qz_react.specs.declared.environments.Env.{Env}
 use Rattle.qz_react.specs.Reacting.{Tells}
 use Rattle.qz_interp.specs.declared.doubts.Doubted.{Doubted}
-use Rattle.qz_interp.specs.declared.slots.Slot.{Slot}
 use Rattle.qz_interp.specs.declared.steps.StepRefusal.{StepRefusal}
 use Rattle.qz_interp.specs.declared.steps.StepRefusal.TheVariants.{NotDefinite, Memory}
 use Rattle.qz_interp.specs.Entering.{blank_slot}
 use Rattle.qz_interp.specs.FirstDoubts.{IsFirstDoubt}
 use Rattle.qz_interp.specs.Keeping.{value_of_known, outputs_kept}
 use Rattle.qz_interp.specs.LastRounds.{IsRefusedFor}
-use Rattle.qz_interp.specs.Machines.{IsDecided, FitsStep, IsOnlyStep, IsNotDefinite, IsRefusal, IsDoubtOrMemory}
+use Rattle.qz_interp.specs.OnlySteps.{IsDecided, FitsStep, IsOnlyStep, IsNotDefinite, IsRefusal, IsDoubtOrMemory}
 use Rattle.qz_interp.proofs.KeepingLemmas.{kept_as_stored, known_first, given_known}
 use Rattle.qz_interp.proofs.LastLemmas.{doubted_is_not_definite}
 use Rattle.qz_interp.proofs.RunLemmas.{tells_round}

@@ -11,4 +11,4 @@ pub mod Beginning
 pub mod Entering
 pub mod Keeping
 pub mod InstanceTexts
-pub mod Machines
+pub mod OnlySteps

@@ -9,7 +9,7 @@ ghost use Rattle.qz_meaning.specs.Programs.{program_of, instances_of, formals_of
 ghost use Rattle.qz_meaning.specs.Configurations.{IsValuationOf};
 ghost use Rattle.qz_react.specs.Reacting.{IsWalkerOf};
 ghost use Rattle.qz_interp.specs.Entering.{blank_slot};
-ghost use Rattle.qz_interp.specs.Machines.{IsPrepared, IsDecided};
+ghost use Rattle.qz_interp.specs.OnlySteps.{IsPrepared, IsDecided};
 
 use crate::decisions::decide;
 use crate::doubts::Doubted;

@@ -7,7 +7,7 @@ ghost use Rattle.qz_meaning.specs.MacroSteps.{next_place as place_after};
 ghost use Rattle.qz_react.specs.Reacting.{IsWalkerOf, Tells};
 ghost use Rattle.qz_interp.specs.Entering.{blank_slot};
 ghost use Rattle.qz_interp.specs.Keeping.{outputs_kept, value_of_known};
-ghost use Rattle.qz_interp.specs.Machines.{FitsStep, IsOnlyStep, IsRefusal, IsDoubtOrMemory};
+ghost use Rattle.qz_interp.specs.OnlySteps.{FitsStep, IsOnlyStep, IsRefusal, IsDoubtOrMemory};
 
 use crate::doubts::Doubted;
 use crate::keeping::{first_known, give_outputs, keep_outputs};

@@ -4,7 +4,7 @@ use Rattle.qz_meaning.specs.Programs.{program_of}
 use Rattle.qz_meaning.specs.Configurations.{Configuration, IsValuationOf}
 use Rattle.qz_interp.specs.declared.slots.Slot.{Slot}
 use Rattle.qz_interp.specs.Keeping.{outputs_kept}
-use Rattle.qz_interp.specs.Machines.{IsDecided}
+use Rattle.qz_interp.specs.OnlySteps.{IsDecided}
 use Rattle.qz_interp.proofs.StepLemmas.{refusal, only_step}
 use Rattle.qz_interp.proofs.steps.take_step.Goals as goal
 

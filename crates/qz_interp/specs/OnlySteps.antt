@@ -1,34 +1,20 @@
--- What a machine is, and what its steps are.
-use Rattle.std.specs.Prelude.{◌≡◌, ℕ, ◌≤◌, ◌*◌, List, [], map, length, Option}
+-- What the steps of a program are.
+use Rattle.std.specs.Prelude.{◌≡◌, ℕ, ◌≤◌, ◌*◌, List, [], length, Option}
 use Rattle.qz_values.specs.declared.Value.{Value}
 use Rattle.qz_syntax.specs.declared.modules.Module.{Module}
-use Rattle.qz_syntax.specs.declared.modules.Whole.{Whole}
 use Rattle.qz_syntax.specs.WellFormed.{IsWellFormed}
-use Rattle.qz_meaning.specs.Programs.{Program, program_of, instances_of}
-use Rattle.qz_meaning.specs.Configurations.{Configuration, initial, IsConfiguration, IsValuationOf}
+use Rattle.qz_meaning.specs.Programs.{Program, program_of}
+use Rattle.qz_meaning.specs.Configurations.{Configuration, IsConfiguration, IsValuationOf}
 use Rattle.qz_meaning.specs.Settling.{step_met}
 use Rattle.qz_meaning.specs.Rounds.{IsDefinite}
 use Rattle.qz_meaning.specs.MacroSteps.{IsStep, HaveOneSolution}
 use Rattle.qz_react.specs.declared.environments.Env.{Env}
-use Rattle.qz_react.specs.Reacting.{IsWalkerOf}
 use Rattle.qz_interp.specs.declared.doubts.Doubted.{Doubted}
-use Rattle.qz_interp.specs.declared.machine.Desk.{Desk}
 use Rattle.qz_interp.specs.declared.steps.StepRefusal.{StepRefusal}
 use Rattle.qz_interp.specs.declared.steps.StepRefusal.TheVariants.{NotDefinite, Memory}
 use Rattle.qz_interp.specs.declared.slots.Slot.{Slot}
 use Rattle.qz_interp.specs.Beginning.{BeginsRounds}
-use Rattle.qz_interp.specs.Entering.{blank_slot}
-use Rattle.qz_interp.specs.InstanceTexts.{instance_text}
 use Rattle.qz_interp.specs.LastRounds.{AreLastRound, Decides, IsRefusedFor}
-
--- a program, and where it is
-pub record MachineState : Type 0 where
-  pub program : Whole
-  pub configuration : Configuration
-
--- a program at its beginning
-abbrev pub begun : Whole → MachineState
-begun w = record { program = w; configuration = initial (program_of w.module) }
 
 -- the lists with which the rounds of a step begin, and how many rounds are enough
 pub record IsPrepared (m : Module) (c : Configuration) (row : List Value) (slots : List Slot) (env : Env) (most : ℕ) : Type 0 where
@@ -41,23 +27,12 @@ pub record IsDecided (m : Module) (c : Configuration) (row : List Value) (env : 
   pub last : AreLastRound (program_of m) c row env.now.items env.later.items
   pub decides : Decides (program_of m) c row answer
 
--- what a machine works with: how its program is walked, a slot for each instance with nothing met, and each
--- instance's text
-pub record IsReady (w : Whole) (desk : Desk) : Type 0 where
-  pub walker : IsWalkerOf w.module desk.walker
-  pub blank : desk.lists.blank.items ≡ map (blank_slot w.module) (instances_of w.module)
-  pub texts : desk.texts.items ≡ map (instance_text w) (instances_of w.module)
-
 -- The inputs and the room for outputs fit a step: the program is well formed, the configuration and the inputs are
 -- the program's, and there is room for a value of each output.
 pub record FitsStep (m : Module) (c : Configuration) (row : List Value) (count : ℕ) : Type 0 where
   pub well_formed : IsWellFormed [] m
   pub valuation : IsValuationOf (program_of m) c row
   pub room : count ≡ length (program_of m).outputs
-
--- the same of a machine
-abbrev pub CanTake : MachineState → List Value → ℕ → Type 0
-CanTake s row count = FitsStep s.program.module s.configuration row count
 
 -- The only macro step. Its configuration is definite, every step with these inputs has these outputs and leads to
 -- the next configuration, and all solutions agree wherever instances are met.
