@@ -17,8 +17,6 @@ mod laws;
 mod node;
 mod solver;
 mod table;
-#[cfg(test)]
-mod tests;
 mod work;
 
 pub use call::DdOp;

@@ -6,8 +6,6 @@
 
 mod depths;
 mod endings;
-#[cfg(test)]
-mod tests;
 mod texts;
 mod whole;
 

@@ -17,8 +17,6 @@ mod settling;
 mod slots;
 mod steps;
 mod tallies;
-#[cfg(test)]
-mod tests;
 mod verdicts;
 
 pub use decisions::decide;

@@ -1,12 +1,11 @@
 //! What the writers of one target come to.
 
 ghost use Rattle.std.specs.Prelude.{◌≡◌};
-ghost use Rattle.qz_values.specs.Types.{is_same_type};
 ghost use Rattle.qz_values.specs.Values.{is_yes};
 ghost use Rattle.qz_meaning.specs.Verdicts.{Open, One, join, enabled, verdict_of_one, is_same_value};
 ghost use Rattle.qz_interp.specs.Seeing.{verdict_seen};
 
-use qz_values::{Know, Ty, Value};
+use qz_values::{Know, Ty, Value, is_same_type};
 
 /// What the writers of one target come to.
 #[derive(Clone, Copy, Debug, PartialEq, Eq)]
@@ -106,19 +105,4 @@ fn is_same(v: Value, w: Value) -> bool
     ensures { result ≡ is_same_value v w }
 {
     is_same_type(v.ty(), w.ty()) && v.bits() == w.bits()
-}
-
-fn is_same_type(t: Ty, u: Ty) -> bool
-    ensures { result ≡ is_same_type t u }
-{
-    match t {
-        Ty::Bool => match u {
-            Ty::Bool => true,
-            Ty::Bv(_) => false,
-        },
-        Ty::Bv(width) => match u {
-            Ty::Bool => false,
-            Ty::Bv(other) => width == other,
-        },
-    }
 }

@@ -38,5 +38,3 @@ pub use faults::LexFault;
 pub use lexer::{lex, one_outcome};
 pub use tokens::{Token, TokenKind};
 
-#[cfg(test)]
-mod tests;

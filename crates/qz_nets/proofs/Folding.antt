@@ -16,7 +16,7 @@ use Rattle.qz_nets.specs.declared.table.NetTable.{NetTable}
 use Rattle.qz_nets.specs.Nets.{net_know}
 use Rattle.qz_nets.specs.Tables.{type_at}
 use Rattle.qz_nets.specs.Readings.{net_in, type_in, Reading, Reads, Carries}
-use Rattle.qz_nets.proofs.Typing.{given1}
+use Rattle.qz_values.proofs.Given.{given1}
 use Rattle.qz_nets.proofs.Growing.{entry_of_net, type_take}
 use Rattle.qz_nets.proofs.Solving.{reading_typed, type_there}
 

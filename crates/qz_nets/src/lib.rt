@@ -10,8 +10,6 @@ mod evaluation;
 mod laws;
 mod net;
 mod table;
-#[cfg(test)]
-mod tests;
 
 pub use laws::{equal_nets_have_one_number, readings_agree};
 pub use net::{Net, NetId};

@@ -22,8 +22,6 @@ mod places;
 mod refusals;
 mod sizes;
 mod statements;
-#[cfg(test)]
-mod tests;
 
 pub use declarations::{Class, Decl, Dir, Formal, Port, Proto};
 pub use expressions::{Expr, Var};

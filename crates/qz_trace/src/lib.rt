@@ -8,8 +8,6 @@ mod faults;
 mod fields;
 mod print;
 mod read;
-#[cfg(test)]
-mod tests;
 mod traces;
 mod types;
 

@@ -9,12 +9,12 @@ ghost use Rattle.qz_values.specs.Types.{is_same_type};
 ghost use Rattle.qz_syntax.specs.Typing.{is_same_class};
 ghost use Rattle.qz_types.specs.ArgumentFaults.{argument_faults, direction_faults, is_writable, output_name_faults, matched_faults, own_faults};
 
-use crate::expressions::{first_token, is_same, type_of, type_of_text};
+use crate::expressions::{first_token, type_of, type_of_text};
 use crate::faults::{FirstFault, TypeKind};
 use crate::scope::Scope;
 use crate::variables::Variable;
 use qz_syntax::{Class, Dir, FileExpr, FileFormal, NameAt};
-use qz_values::Ty;
+use qz_values::{Ty, is_same_type};
 
 /// Looks at each of some arguments by itself.
 pub(crate) fn own(names: &Scope<Variable>, arguments: &[FileExpr], first: &mut FirstFault)
@@ -68,7 +68,7 @@ pub(crate) fn both(a: Option<Ty>, b: Option<Ty>, at: u32, first: &mut FirstFault
 {
     if let Some(a) = a {
         if let Some(b) = b {
-            first.check(is_same(a, b), TypeKind::TypeDiffers, at);
+            first.check(is_same_type(a, b), TypeKind::TypeDiffers, at);
         }
     }
 }

@@ -1,7 +1,7 @@
 //! The types of expressions as they are written, and what is said against them.
 
 ghost use Rattle.std.specs.Prelude.{◌≡◌, ℕ, ◌^◌, ◌≤◌, nat_lt, None, is_some, option_and_then};
-ghost use Rattle.qz_values.specs.Types.{width_of, IsType, is_vector, is_bool, is_same_type};
+ghost use Rattle.qz_values.specs.Types.{width_of, IsType, is_vector, is_bool};
 ghost use Rattle.qz_values.specs.Tables.{type1_of, type2_of, choose_type, bit_type, slice_type, concat_type};
 ghost use Rattle.qz_types.specs.Faults.{first_with, unless};
 ghost use Rattle.qz_types.specs.Scopes.{meanings_of};
@@ -12,7 +12,7 @@ use crate::faults::{FirstFault, TypeKind};
 use crate::scope::Scope;
 use crate::variables::Variable;
 use qz_syntax::{FileExpr, NameAt, TypeText};
-use qz_values::{Op1, Op2, Ty, type1, type2};
+use qz_values::{Op1, Op2, Ty, choose_type, concat_type, type1, type2};
 
 /// The most bits of a vector.
 const WIDEST: u8 = 64;
@@ -76,17 +76,6 @@ pub(crate) fn type_of_text(text: TypeText) -> Option<Ty>
     match text {
         TypeText::Bool => Some(Ty::Bool),
         TypeText::Bv { width, .. } => vectors(width),
-    }
-}
-
-/// Whether two types are one.
-pub(crate) fn is_same(a: Ty, b: Ty) -> bool
-    ensures { result ≡ is_same_type a b }
-{
-    match (a, b) {
-        (Ty::Bool, Ty::Bool) => true,
-        (Ty::Bv(v), Ty::Bv(w)) => v == w,
-        _ => false,
     }
 }
 
@@ -178,19 +167,9 @@ fn choice(
     ensures faults { first.new.fault ≡ first_with first.old.fault (where_typed c (λ r. where_both a b (λ s t.
         unless (is_some (choose_type r s t)) TypeKind.TypeDiffers at))) }
 {
-    let ty = chosen(c?, a?, b?);
+    let ty = choose_type(c?, a?, b?);
     first.check(ty.is_some(), TypeKind::TypeDiffers, at);
     ty
-}
-
-fn chosen(c: Ty, a: Ty, b: Ty) -> Option<Ty>
-    ensures { result ≡ choose_type c a b }
-{
-    if is_bool(c) {
-        type2(Op2::And, a, b)
-    } else {
-        None
-    }
 }
 
 /// `a{high}` or `a{high:low}`
@@ -250,24 +229,13 @@ fn joined(at: u32, a: Option<Ty>, b: Option<Ty>, first: &mut FirstFault) -> Opti
 {
     let a = a?;
     let b = b?;
-    let ty = concatenation(a, b);
+    let ty = concat_type(a, b);
     if is_vector(a) && is_vector(b) {
         first.check(ty.is_some(), TypeKind::WidthRange, at);
     } else {
         first.note(TypeKind::TypeDiffers, at);
     }
     ty
-}
-
-fn concatenation(a: Ty, b: Ty) -> Option<Ty>
-    ensures { result ≡ concat_type a b }
-{
-    match (a, b) {
-        (Ty::Bv(v), Ty::Bv(w)) if is_vector(a) && is_vector(b) => vectors(
-            u128::from(v) + u128::from(w),
-        ),
-        _ => None,
-    }
 }
 
 /// The offset of an expression's first token.

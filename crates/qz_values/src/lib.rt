@@ -12,14 +12,14 @@ ghost use Rattle.qz_values.specs.Values.{value_of, type_of, bits_of, truth_of, d
 
 mod known;
 mod laws;
-#[cfg(test)]
-mod tests;
 mod typing;
 mod words;
 
 pub use known::{apply1, apply2, bit, choose, concat, slice};
 pub use laws::{operators_are_monotone, operators_keep_types, order_is_partial};
-pub use typing::{type1, type2};
+pub use typing::{
+    bit_type, choose_type, concat_type, is_same_type, is_type, slice_type, type1, type2,
+};
 use words::{ones, width};
 
 /// The type of a value.

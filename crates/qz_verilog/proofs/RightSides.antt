@@ -13,52 +13,15 @@ use Rattle.qz_values.specs.Operators.{value1, value2, value_bit, value_slice, va
 use Rattle.qz_values.specs.Knowledge.{apply2_of, choose_of}
 use Rattle.qz_values.specs.Tables.{type2_of, takes2, gives2, choose_type, bit_type, slice_type, concat_type}
 use Rattle.qz_values.specs.Fits.{IsOf, HasType}
+use Rattle.qz_values.proofs.Given.{given1, given2, given3}
 use Rattle.qz_values.proofs.Typed.{same-is_same_type, typed1, typed2, typed_choose, typed_bit, typed_slice, typed_concat}
 use Rattle.qz_values.proofs.Connectives.{yes_or_no}
 use Rattle.qz_verilog.specs.declared.nets.Ref.{Ref}
 use Rattle.qz_verilog.specs.declared.nets.Rhs.{Rhs}
 use Rattle.qz_verilog.specs.declared.nets.Rhs.TheVariants as rhs
-use Rattle.qz_verilog.specs.Types.{NetTypes, net_type, given1, given2, given3, is_value, inversion_of, inverted_type, has_sign, right_side_type}
+use Rattle.qz_verilog.specs.Types.{NetTypes, net_type, is_value, inversion_of, inverted_type, has_sign, right_side_type}
 use Rattle.qz_verilog.specs.Meaning.{Nets, value_at, inverted, right_side}
 use Rattle.qz_verilog.proofs.ValidityLemmas.{is_value-IsValue}
-
--- operands with types of which the table gives this one
-pub record Given1 (table : Ty → Option Ty) (x : Option Ty) (u : Ty) : Type 0 where
-  pub s : Ty
-  pub first : x ≡ Some s
-  pub gives : table s ≡ Some u
-
-pub record Given2 (table : Ty → Ty → Option Ty) (x y : Option Ty) (u : Ty) : Type 0 where
-  pub s : Ty
-  pub t : Ty
-  pub first : x ≡ Some s
-  pub second : y ≡ Some t
-  pub gives : table s t ≡ Some u
-
-pub record Given3 (table : Ty → Ty → Ty → Option Ty) (x y z : Option Ty) (u : Ty) : Type 0 where
-  pub r : Ty
-  pub s : Ty
-  pub t : Ty
-  pub first : x ≡ Some r
-  pub second : y ≡ Some s
-  pub third : z ≡ Some t
-  pub gives : table r s t ≡ Some u
-
-pub given1_parts : (table : Ty → Option Ty) (x : Option Ty) (u : Ty) → given1 table x ≡ Some u → Given1 table x u
-given1_parts table None u h = absurd (cc)
-given1_parts table (Some s) u h = record { s = s; first = refl; gives = h }
-
-pub given2_parts : (table : Ty → Ty → Option Ty) (x y : Option Ty) (u : Ty) → given2 table x y ≡ Some u → Given2 table x y u
-given2_parts table None y u h = absurd (cc)
-given2_parts table (Some s) y u h =
-    let rest = given1_parts (table s) y u h in
-    record { s = s; t = rest.s; first = refl; second = rest.first; gives = rest.gives }
-
-pub given3_parts : (table : Ty → Ty → Ty → Option Ty) (x y z : Option Ty) (u : Ty) → given3 table x y z ≡ Some u → Given3 table x y z u
-given3_parts table None y z u h = absurd (cc)
-given3_parts table (Some r) y z u h =
-    let rest = given2_parts (table r) y z u h in
-    record { r = r; s = rest.s; t = rest.t; first = refl; second = rest.first; third = rest.second; gives = rest.gives }
 
 pub if_some : (b : Bool) (o : Option Ty) (u : Ty) → cond b o None ≡ Some u → (b ≡ true) × (o ≡ Some u)
 if_some true o u h = (refl, h)
@@ -72,22 +35,22 @@ pub same_right : (types : NetTypes) (a b : Nets) → Agree types a b → (right 
     right_side a right ≡ right_side b right
 same_right types a b agree (rhs.Const v) u h = refl
 same_right types a b agree (rhs.Invert x) u h =
-    let p = given1_parts inverted_type (net_type types x) u h in
+    let p = given1 inverted_type (net_type types x) u h in
     ap inverted (agree x p.s p.first)
 same_right types a b agree (rhs.Bin op x y) u h =
-    let p = given2_parts (type2_of op) (net_type types x) (net_type types y) u (if_some (has_sign op) _ u h).1 in
+    let p = given2 (type2_of op) (net_type types x) (net_type types y) u (if_some (has_sign op) _ u h).1 in
     ap₂ (λ v w. value2 op v w) (agree x p.s p.first) (agree y p.t p.second)
 same_right types a b agree (rhs.Choose c x y) u h =
-    let p = given3_parts choose_type (net_type types c) (net_type types x) (net_type types y) u h in
+    let p = given3 choose_type (net_type types c) (net_type types x) (net_type types y) u h in
     rw (agree c p.r p.first, agree x p.s p.second, agree y p.t p.third) refl
 same_right types a b agree (rhs.Bit x i) u h =
-    let p = given1_parts (λ t. bit_type t i) (net_type types x) u h in
+    let p = given1 (λ t. bit_type t i) (net_type types x) u h in
     ap (λ v. value_bit v i) (agree x p.s p.first)
 same_right types a b agree (rhs.Slice x high low) u h =
-    let p = given1_parts (λ t. slice_type t high low) (net_type types x) u h in
+    let p = given1 (λ t. slice_type t high low) (net_type types x) u h in
     ap (λ v. value_slice v high low) (agree x p.s p.first)
 same_right types a b agree (rhs.Concat x y) u h =
-    let p = given2_parts concat_type (net_type types x) (net_type types y) u h in
+    let p = given2 concat_type (net_type types x) (net_type types y) u h in
     ap₂ (λ v w. value_concat v w) (agree x p.s p.first) (agree y p.t p.second)
 
 -- each net that is declared has a value of its type
@@ -142,26 +105,26 @@ typed_right types nets typed (rhs.Const v) u h =
     let same : type_of v ≡ u = cc in
     record { typed = same; fits = rw (← same) is.fits }
 typed_right types nets typed (rhs.Invert x) u h =
-    let p = given1_parts inverted_type (net_type types x) u h in
+    let p = given1 inverted_type (net_type types x) u h in
     inverted_typed p.s u (value_at nets x) p.gives (typed x p.s p.first)
 typed_right types nets typed (rhs.Bin op x y) u h =
     let q = if_some (has_sign op) _ u h in
-    let p = given2_parts (type2_of op) (net_type types x) (net_type types y) u q.1 in
+    let p = given2 (type2_of op) (net_type types x) (net_type types y) u q.1 in
     let f = typed x p.s p.first in
     let g = typed y p.t p.second in
     subst (HasType u) (apply2-known op p.s p.t u _ _ q.0 p.gives f g)
     (typed2 op p.s p.t u (Known (value_at nets x)) (Known (value_at nets y)) p.gives f g).2
 typed_right types nets typed (rhs.Choose c x y) u h =
-    let p = given3_parts choose_type (net_type types c) (net_type types x) (net_type types y) u h in
+    let p = given3 choose_type (net_type types c) (net_type types x) (net_type types y) u h in
     subst (HasType u) (choose-known (value_at nets c) (value_at nets x) (value_at nets y))
     (typed_choose p.r p.s p.t u (Known (value_at nets c)) (Known (value_at nets x)) (Known (value_at nets y)) p.gives
     (typed c p.r p.first) (typed x p.s p.second) (typed y p.t p.third)).2
 typed_right types nets typed (rhs.Bit x i) u h =
-    let p = given1_parts (λ t. bit_type t i) (net_type types x) u h in
+    let p = given1 (λ t. bit_type t i) (net_type types x) u h in
     (typed_bit i p.s u (Known (value_at nets x)) p.gives (typed x p.s p.first)).2
 typed_right types nets typed (rhs.Slice x high low) u h =
-    let p = given1_parts (λ t. slice_type t high low) (net_type types x) u h in
+    let p = given1 (λ t. slice_type t high low) (net_type types x) u h in
     (typed_slice high low p.s u (Known (value_at nets x)) p.gives (typed x p.s p.first)).2
 typed_right types nets typed (rhs.Concat x y) u h =
-    let p = given2_parts concat_type (net_type types x) (net_type types y) u h in
+    let p = given2 concat_type (net_type types x) (net_type types y) u h in
     (typed_concat p.s p.t u (Known (value_at nets x)) (Known (value_at nets y)) p.gives (typed x p.s p.first) (typed y p.t p.second)).2

@@ -1,5 +1,6 @@
 -- The types of nets and of right sides.
 use Rattle.std.specs.Prelude.{◌^◌, Bool, true, false, ◌&&◌, nat_lt, List, Option, Some, None, slice_get, if◌then◌else◌}
+use Rattle.std.specs.Option.{option_and_then}
 use Rattle.qz_values.specs.declared.Ty.{Ty}
 use Rattle.qz_values.specs.declared.Ty.TheVariants as ty
 use Rattle.qz_values.specs.declared.Value.{Value}
@@ -29,16 +30,13 @@ net_type types (net.Wire number) = slice_get types.wires number
 
 -- what a table of types gives of operands, each of which has a type or none
 abbrev pub given1 : (Ty → Option Ty) → Option Ty → Option Ty
-given1 table None = None
-given1 table (Some s) = table s
+given1 table a = option_and_then table a
 
 abbrev pub given2 : (Ty → Ty → Option Ty) → Option Ty → Option Ty → Option Ty
-given2 table None t = None
-given2 table (Some s) t = given1 (table s) t
+given2 table a b = option_and_then (λ s. given1 (table s) b) a
 
 abbrev pub given3 : (Ty → Ty → Ty → Option Ty) → Option Ty → Option Ty → Option Ty → Option Ty
-given3 table None s t = None
-given3 table (Some r) s t = given2 (table r) s t
+given3 table a b c = option_and_then (λ r. given2 (table r) b c) a
 
 -- whether its number is one that its type's bits hold, as a test
 abbrev pub is_value : Value → Bool

@@ -1,13 +1,14 @@
 //! The nets that are declared, and the types of right sides that read them.
 
 ghost use Rattle.std.specs.Prelude.{◌≡◌};
-ghost use Rattle.qz_verilog.specs.Types.{net_type, right_side_type, constant_type, has_sign, is_value};
+ghost use Rattle.qz_verilog.specs.Types.{net_type, right_side_type, inverted_type, constant_type, has_sign, is_value};
 ghost use Rattle.qz_verilog.specs.Validity.{declared_types};
 
 use crate::nets::{Ref, Rhs};
-use crate::tables::{bit_type, choose_type, concat_type, inverted_type, slice_type};
 use qz_syntax::Port;
-use qz_values::{Op2, Ty, Value, type2};
+use qz_values::{
+    Op1, Op2, Ty, Value, bit_type, choose_type, concat_type, slice_type, type1, type2,
+};
 
 /// The inputs, registers and wires that are declared so far.
 #[derive(Clone, Copy, Debug)]
@@ -47,6 +48,16 @@ impl<'a> Declared<'a> {
             Rhs::Slice(a, high, low) => slice_type(self.net_type(a)?, high, low),
             Rhs::Concat(a, b) => concat_type(self.net_type(a)?, self.net_type(b)?),
         }
+    }
+}
+
+/// The type of `~a`, also of a bool.
+fn inverted_type(a: Ty) -> Option<Ty>
+    ensures { result ≡ inverted_type a }
+{
+    match a {
+        Ty::Bool => type1(Op1::Not, a),
+        Ty::Bv(_) => type1(Op1::Invert, a),
     }
 }
 

@@ -10,9 +10,6 @@ mod laws;
 mod modules;
 mod nets;
 mod simulation;
-mod tables;
-#[cfg(test)]
-mod tests;
 mod validity;
 mod wires;
 

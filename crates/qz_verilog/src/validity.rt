@@ -10,9 +10,8 @@ ghost use Rattle.qz_verilog.specs.Validity.{port_types, port_names, register_typ
 use crate::declared::{Declared, is_value};
 use crate::modules::VModule;
 use crate::nets::{Ref, Rhs};
-use crate::tables::{is_same_type, is_type};
 use qz_syntax::{Name, Port};
-use qz_values::{Ty, Value};
+use qz_values::{Ty, Value, is_same_type, is_type};
 
 /// Whether a module is valid: it can be written, and means what is written.
 ///

@@ -14,8 +14,6 @@ mod nets;
 mod numbers;
 mod ports;
 mod read;
-#[cfg(test)]
-mod tests;
 mod types;
 
 pub use read::{BadVerilog, read_v};

@@ -6,8 +6,6 @@
 
 mod pen;
 mod spell;
-#[cfg(test)]
-mod tests;
 mod write;
 
 pub use spell::push_name;

@@ -3,7 +3,7 @@
 ghost use Rattle.std.specs.Prelude.{◌≡◌};
 ghost use Rattle.qz_values.specs.Fits.{HasType};
 
-use crate::{
+use qz_values::{
     Know, Op1, Op2, Ty, Value, apply1, apply2, bit, choose, concat, operators_are_monotone,
     operators_keep_types, order_is_partial, slice, type1, type2,
 };

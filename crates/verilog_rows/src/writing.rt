@@ -1,9 +1,9 @@
 //! Texts worked out by hand.
 
-use crate::write_v;
 use qz_syntax::{Name, Port};
 use qz_values::{Op2, Ty, Value};
 use qz_verilog::{Ref, Rhs, VModule, validate};
+use qz_vtext::write_v;
 use sqlite_items::Items;
 use std::alloc::Global;
 use std::test::Fail;

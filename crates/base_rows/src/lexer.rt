@@ -1,6 +1,6 @@
 //! Texts with their tokens or the offset of their fault, by hand from the rules.
 
-use crate::{LexFault, lex};
+use qz_lexer::{LexFault, lex};
 use std::alloc::Global;
 use std::fmt::Write;
 use std::process::Abort;

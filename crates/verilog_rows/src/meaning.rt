@@ -1,11 +1,11 @@
 //! Modules, clocks and right sides worked out by hand.
 
-use crate::{
+use qz_syntax::{Name, Port};
+use qz_values::{Op2, Ty, Value};
+use qz_verilog::{
     Ref, Rhs, Sim, VModule, a_valid_module_keeps_types, a_valid_module_runs_once,
     a_valid_module_settles_once, validate,
 };
-use qz_syntax::{Name, Port};
-use qz_values::{Op2, Ty, Value};
 use sqlite_items::Items;
 use std::alloc::Global;
 use std::test::Fail;

@@ -1,6 +1,6 @@
 //! Modules that are accepted and refused.
 
-use crate::expand_one;
+use qz_expand::expand_one;
 use qz_syntax::{Class, Decl, Expr, Kind, LinkRefusal, Module, Name, Names, Stmt, Text};
 use qz_values::{Ty, Value};
 use sqlite_items::{Boxed, Items};

@@ -1,7 +1,7 @@
 //! What no clause says: that calls succeed where there is memory, and knowledge that was worked by
 //! hand from the rules of the operators.
 
-use crate::{Net, NetId, NetTable, equal_nets_have_one_number, readings_agree};
+use qz_nets::{Net, NetId, NetTable, equal_nets_have_one_number, readings_agree};
 use qz_values::{Know, Op1, Op2, Ty, Value};
 use std::alloc::{AllocError, Global};
 use std::process::Abort;

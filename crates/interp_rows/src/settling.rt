@@ -1,6 +1,6 @@
 //! What a variable settles to, by hand.
 
-use crate::{Entry, Slot, Tally};
+use qz_interp::{Entry, Slot, Tally};
 use qz_syntax::{Class, Later, Store};
 use qz_values::{Know, Ty, Value};
 use std::alloc::Global;

@@ -1,6 +1,6 @@
 //! Texts that are traces, and texts that aren't, with the line and the kind worked out by hand.
 
-use crate::{BadTrace, TRACE_LIMIT, Trace, TraceKind, are_types, print_trace, read_trace};
+use qz_trace::{BadTrace, TRACE_LIMIT, Trace, TraceKind, are_types, print_trace, read_trace};
 use qz_values::Ty;
 use std::alloc::Global;
 use std::process::Abort;

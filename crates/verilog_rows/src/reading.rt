@@ -1,7 +1,7 @@
 //! Texts that are read, and texts with a line at fault, worked out by hand.
 
-use crate::{BadVerilog, read_v};
 use qz_verilog::{VModule, validate};
+use qz_vread::{BadVerilog, read_v};
 use qz_vtext::write_v;
 use std::alloc::Global;
 use std::test::Fail;

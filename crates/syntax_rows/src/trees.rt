@@ -1,6 +1,6 @@
 //! Rows worked out by hand.
 
-use crate::{
+use qz_syntax::{
     Arg, Binding, Expr, Kind, Mark, Module, Name, Stmt, Text, Var, marks_of, may_end, size,
 };
 use qz_values::{Op1, Op2, Value};

@@ -1,7 +1,7 @@
 //! What no clause says: that calls succeed where there is memory, values that were worked by hand,
 //! and what a table is after a call that found no memory.
 
-use crate::{DdId, DdOp, Diagrams};
+use qz_dd::{DdId, DdOp, Diagrams};
 use std::alloc::{AllocError, Global};
 use std::process::Abort;
 use std::test::Fail;

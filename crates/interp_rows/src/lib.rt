@@ -1,0 +1,6 @@
+//! Tests of the interpreter's parts. They stand in a crate of their own, since a crate with tests is
+//! proved once more for them.
+#![tactic(auto)]
+
+#[cfg(test)]
+mod settling;
