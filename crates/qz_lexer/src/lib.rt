@@ -37,4 +37,3 @@ mod words;
 pub use faults::LexFault;
 pub use lexer::{lex, one_outcome};
 pub use tokens::{Token, TokenKind};
-
