@@ -6,4 +6,6 @@
 #[cfg(test)]
 mod programs;
 #[cfg(test)]
+mod simulations;
+#[cfg(test)]
 mod tests;

@@ -10,9 +10,9 @@ use Rattle.qz_driver.specs.declared.status.Status.TheVariants as status
 use Rattle.qz_driver.specs.declared.work.Output.{Output}
 use Rattle.qz_driver.specs.declared.work.Stop.{Stop}
 use Rattle.qz_driver.specs.declared.work.Stop.TheVariants as stop
-use Rattle.qz_driver.specs.Causes.{Cause, cause_of}
-use Rattle.qz_driver.specs.Rows.{Row, Asks, Content, StandsFirst, StandsNone, IsAgainst, IsMade, contents_in}
-use Rattle.qz_driver.specs.Answers.{FilesSeen, Seen, Puts, HoldsAtWant, SaysAtEnd, IsAnswer, Completes, FailsToRead}
+use Rattle.qz_diag.specs.Causes.{Cause, cause_of}
+use Rattle.qz_driver.specs.Rows.{Row, Asked, Asks, Content, StandsFirst, StandsNone, IsAgainst, IsMade, contents_in}
+use Rattle.qz_driver.specs.Answers.{FilesSeen, Seen, Puts, HoldsAtWant, SaysAtEnd, IsAnswer, IsComplete, Completes, FailsToRead}
 use Rattle.qz_driver.specs.Outcomes.{Ends, EndsInFile, EndsInLine}
 use Rattle.qz_driver.specs.Work.{IsWork}
 
@@ -163,3 +163,13 @@ answered row says old new between (Err stop.Memory) answer does ends =
     let P : Status → Type 0 = λ a. Answered row old new a in
     let same : new ≡ old = ends.1 ∙ ap (λ (files : FilesSeen). seen_with files old) does in
     subst P (sym ends.0) (record { is = wanting_answer row says old new same; complete = wanting_completes row says old new })
+
+-- an answer with this status, of words that ask for the row
+pub by_status : (row : Row) (asked : Asked) (old new : Seen) (answer given : Status) → asked ≡ Asks row → IsAnswer (Asks row) old new answer → answer ≡ given
+    → IsAnswer asked old new given
+by_status row asked old new answer given asks is same =
+    subst (λ (a : Asked). IsAnswer a old new given) (sym asks) (subst (λ (s : Status). IsAnswer (Asks row) old new s) same is)
+
+-- what comes where no count rose, of words that ask for the row
+pub by_asking : (row : Row) (asked : Asked) (old new : Seen) (answer : Status) → asked ≡ Asks row → IsComplete (Asks row) old new answer → IsComplete asked old new answer
+by_asking row asked old new answer asks complete = subst (λ (a : Asked). IsComplete a old new answer) (sym asks) complete

@@ -7,7 +7,7 @@ use Rattle.qz_io.specs.declared.files_trait.Files.{Ghosts as FilesGhosts}
 use Rattle.qz_io.specs.declared.sink_trait.Sink.{Ghosts as SinkGhosts}
 use Rattle.qz_driver.specs.declared.status.Status.{Status}
 use Rattle.qz_driver.specs.declared.status.Status.TheVariants as status
-use Rattle.qz_driver.specs.Causes.{Cause, Usage, line_of}
+use Rattle.qz_diag.specs.Causes.{Cause, Usage, line_of}
 use Rattle.qz_driver.specs.Rows.{Asked, BreaksRule, Asks, Content, Row, Read, AreContents, IsClear, StandsFirst, StandsNone, IsAgainst, IsMade, contents_in}
 
 -- what the files tell at a moment

@@ -1,19 +1,18 @@
 -- The mode `build`: the row of its name and its file.
 use Rattle.std.specs.Prelude.{ℕ, ◌≡◌, ◌++◌, List, [], ◌∷◌, None, codes}
-use Rattle.qz_driver.specs.Causes.{Cause, Usage, NotBuilt, InstantLoop}
-use Rattle.qz_driver.specs.Causes.{Absent as CauseAbsent}
-use Rattle.qz_driver.specs.Limits.{largest_source}
+use Rattle.qz_diag.specs.Causes.{Cause, NotBuilt, InstantLoop}
+use Rattle.qz_diag.specs.Causes.{Absent as CauseAbsent}
+use Rattle.qz_first.specs.Limits.{largest_source}
+use Rattle.qz_first.specs.Built.{IsNotBuilt, IsInstant, IsBuilt}
+use Rattle.qz_first.specs.Texts.{HasCircuit}
 use Rattle.qz_driver.specs.Rows.{Row, Content, TooLong, Bytes}
 use Rattle.qz_driver.specs.Rows.{Absent as ContentAbsent}
-use Rattle.qz_driver.specs.Built.{IsNotBuilt, IsInstant, IsBuilt}
-use Rattle.qz_driver.specs.Texts.{HasCircuit}
 
 -- a cause that stands against the bytes of the file
 abbrev pub IsOfBytes : List ℕ → List ℕ → List ℕ → Cause → Type 0
-IsOfBytes name file bytes Usage = ⊥
-IsOfBytes name file bytes (CauseAbsent other) = ⊥
 IsOfBytes name file bytes (NotBuilt other) = (other ≡ file) × IsNotBuilt name bytes
 IsOfBytes name file bytes (InstantLoop number who) = IsInstant name bytes number who
+IsOfBytes name file bytes cause = ⊥
 
 -- a cause that stands against what is found under the file's name
 abbrev pub IsOfContent : List ℕ → List ℕ → Content → Cause → Type 0

@@ -7,7 +7,7 @@ use Rattle.qz_driver.specs.declared.status.Status.TheVariants as status
 use Rattle.qz_driver.specs.declared.work.Output.{Output}
 use Rattle.qz_driver.specs.declared.work.Stop.{Stop}
 use Rattle.qz_driver.specs.declared.work.Stop.TheVariants as stop
-use Rattle.qz_driver.specs.Causes.{Cause, cause_of, line_of}
+use Rattle.qz_diag.specs.Causes.{Cause, cause_of, line_of}
 use Rattle.qz_driver.specs.Answers.{Seen, KeepsHeld, WritesNothing, LosesNothing, Puts, SaysLine, FailsToWrite}
 
 -- a file was put, and nothing else changed

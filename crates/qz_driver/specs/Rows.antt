@@ -1,7 +1,7 @@
 -- What a mode is, once its words are given: a row of the table of answers.
 use Rattle.std.specs.Prelude.{ℕ, ◌≡◌, ◌<◌, List, Option, Some, None, length, map, take, nat_le, if◌then◌else◌, IsSome}
 use Rattle.qz_io.specs.Held.{Held, held_under}
-use Rattle.qz_driver.specs.Causes.{Cause}
+use Rattle.qz_diag.specs.Causes.{Cause}
 
 -- a file that is read, and how many bytes it may have
 pub record Read : Type 0 where

@@ -1,110 +1,69 @@
 //! The mode `build`: from its words to the file that it puts, or to why it puts none.
 
-ghost use Rattle.std.specs.Prelude.{◌≡◌, ◌≤◌, ◌^◌, [], ◌∷◌, length, string_bytes, IfErr, IfOk, OnOk, MatchResult};
-ghost use Rattle.qz_driver.specs.FirstLanguage.{IsFirst};
-ghost use Rattle.qz_driver.specs.Texts.{IsTextOfProgram, HasCircuit};
+ghost use Rattle.std.specs.Prelude.{◌≤◌, [], ◌∷◌, length, MatchResult};
 ghost use Rattle.qz_io.specs.Answers.{IfBytes};
 ghost use Rattle.qz_driver.specs.Answers.{files_seen};
-ghost use Rattle.qz_driver.specs.BuildRow.{build_row, verilog_name, BuildMakes};
-ghost use Rattle.qz_driver.specs.Reading.{OnNotBuilt};
-ghost use Rattle.qz_driver.specs.Work.{content_of, IsWork, StopsAt, StopsInText};
-ghost use Rattle.qz_driver.specs.Built.{IsModuleOf, IsNotBuilt, IsBuilt};
+ghost use Rattle.qz_driver.specs.BuildRow.{build_row, BuildMakes, IsOfContent, IsOfBytes};
+ghost use Rattle.qz_driver.specs.Work.{content_of, IsWork, StopsOver};
+ghost use Rattle.qz_driver.specs.Rows.{Bytes};
 
-use crate::circuit::circuit;
-use crate::instant_loop::instant_loop;
-use crate::limits::MAX_SOURCE;
-use crate::reader::{NoSource, read_source};
-use crate::refusal::Refusal;
-use crate::typing::typed;
-use crate::words::Build;
+use crate::files::{content, output_file};
+use crate::words::Named;
 use crate::work::{Output, Stop};
-use qz_io::{FileFault, Files, Got};
-use qz_syntax::Module;
-use qz_vtext::write_v;
-use std::alloc::{AllocError, Global};
+use qz_diag::Refusal;
+use qz_first::{MAX_SOURCE, NoText, verilog_of_source};
+use qz_io::{Files, Got};
+use std::alloc::Global;
 
 /// Reads the file, and makes the text of the module that was asked for.
-pub fn build<'w, F: Files>(
-    alloc: Global,
-    asked: Build<'w>,
-    files: &mut F,
-) -> Result<Output, Stop<'w>>
+pub fn build<F: Files>(alloc: Global, asked: Named<'_>, files: &mut F) -> Result<Output, Stop>
     ensures { IsWork (build_row asked.entry.name.now asked.entry.file.now) (files_seen F.Files files.old)
         (files_seen F.Files files.new) result }
 {
-    let got = match files.get(alloc, asked.file, MAX_SOURCE) {
+    let got = match content(alloc, files, asked.file, MAX_SOURCE) {
         Ok(got) => got,
-        Err(FileFault::Failed) => return Err(Stop::Unread),
-        Err(FileFault::Memory) => return Err(Stop::Memory),
+        Err(stop) => return Err(stop),
     };
     match verilog_of(alloc, asked, &got) {
-        Ok(text) => verilog_file(alloc, asked.name, text),
+        Ok(text) => output_file(alloc, asked.name, ".v", text),
         Err(stop) => Err(stop),
     }
 }
 
-/// The file in which the text of the module of this name is put.
-fn verilog_file<'w>(alloc: Global, name: &str, text: Vec<u8>) -> Result<Output, Stop<'w>>
-    ensures name { IfOk result (λ output. string_bytes output.name ≡ verilog_name name.now) }
-    ensures bytes { IfOk result (λ output. output.bytes.items ≡ text.items) }
-    ensures err { IfErr result (λ stop. stop ≡ Stop.Memory) }
-{
-    let name = format!(in alloc; "{name}.v")?;
-    Ok(Output { name, bytes: text })
-}
-
 /// The Verilog text of the module that was asked for, from what was found under the file's name.
-fn verilog_of<'w>(alloc: Global, asked: Build<'w>, got: &Got) -> Result<Vec<u8>, Stop<'w>>
+fn verilog_of(alloc: Global, asked: Named<'_>, got: &Got) -> Result<Vec<u8>, Stop>
     requires { IfBytes got.now (λ bytes. length bytes ≤ 1048576) }
     ensures { MatchResult result
         (λ text. BuildMakes asked.entry.name.now (content_of got.now ∷ []) text.items)
-        (λ stop. StopsAt asked.entry.name.now asked.entry.file.now (content_of got.now) stop) }
+        (StopsOver (IsOfContent asked.entry.name.now asked.entry.file.now (content_of got.now))) }
 {
     match got {
-        Got::Absent => Err(Stop::Refused(Refusal::Absent { file: asked.file })),
-        Got::TooLong => Err(Stop::Refused(Refusal::NotBuilt { file: asked.file })),
-        Got::Bytes(bytes) => verilog_of_text(alloc, asked, bytes.as_slice()),
+        Got::Absent => Err(Stop::Refused(Refusal::Absent {
+            file: String::from_str(alloc, asked.file)?,
+        })),
+        Got::TooLong => Err(Stop::Refused(Refusal::NotBuilt {
+            file: String::from_str(alloc, asked.file)?,
+        })),
+        Got::Bytes(bytes) => verilog_of_bytes(alloc, asked, bytes.as_slice()),
     }
 }
 
 /// The same from the file's bytes.
-fn verilog_of_text<'w>(alloc: Global, asked: Build<'w>, bytes: &[u8]) -> Result<Vec<u8>, Stop<'w>>
+fn verilog_of_bytes(alloc: Global, asked: Named<'_>, bytes: &[u8]) -> Result<Vec<u8>, Stop>
     requires { length bytes.now ≤ 1048576 }
-    ensures built { OnOk result (IsBuilt asked.entry.name.now bytes.now) }
-    ensures stops { IfErr result (StopsInText asked.entry.name.now asked.entry.file.now bytes.now) }
-    ensures does { IfOk result (λ text. HasCircuit asked.entry.name.now bytes.now text.items) }
+    ensures { MatchResult result
+        (λ text. BuildMakes asked.entry.name.now (Bytes bytes.now ∷ []) text.items)
+        (StopsOver (IsOfBytes asked.entry.name.now asked.entry.file.now bytes.now)) }
 {
-    match asked_module(alloc, asked.name, bytes) {
-        Ok(module) => match instant_loop(&module.body) {
-            Some(number) => Err(Stop::Refused(Refusal::InstantLoop {
-                module: module.name,
-                number,
-            })),
-            None => Ok(text_of_module(alloc, module)?),
-        },
-        Err(NoSource::NotBuilt) => Err(Stop::Refused(Refusal::NotBuilt { file: asked.file })),
-        Err(NoSource::Memory) => Err(Stop::Memory),
+    match verilog_of_source(alloc, asked.name, bytes) {
+        Ok(text) => Ok(text),
+        Err(NoText::NotBuilt) => Err(Stop::Refused(Refusal::NotBuilt {
+            file: String::from_str(alloc, asked.file)?,
+        })),
+        Err(NoText::InstantLoop { module, number }) => Err(Stop::Refused(Refusal::InstantLoop {
+            module,
+            number,
+        })),
+        Err(NoText::Memory) => Err(Stop::Memory),
     }
-}
-
-/// The module of this name that the bytes describe.
-fn asked_module(alloc: Global, name: &str, bytes: &[u8]) -> Result<Module, NoSource>
-    requires { length bytes.now ≤ 1048576 }
-    ensures found { IfOk result (IsModuleOf name.now bytes.now) }
-    ensures first { IfOk result IsFirst }
-    ensures none { IfErr result (λ fault. OnNotBuilt fault (IsNotBuilt name.now bytes.now)) }
-{
-    match read_source(alloc, bytes) {
-        Ok(source) => typed(alloc, name, source),
-        Err(fault) => Err(fault),
-    }
-}
-
-/// The text of the circuit that does the module's program.
-fn text_of_module(alloc: Global, program: Module) -> Result<Vec<u8>, AllocError>
-    requires { IsFirst program }
-    ensures { IfOk result (λ text. IsTextOfProgram program text.items) }
-{
-    let circuit = circuit(alloc, program)?;
-    write_v(alloc, &circuit)
 }

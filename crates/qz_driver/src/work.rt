@@ -1,6 +1,6 @@
 //! What a mode comes to before anything is put or said: the file that it puts, or why it puts none.
 
-use crate::refusal::Refusal;
+use qz_diag::Refusal;
 use std::alloc::AllocError;
 
 /// A file that is to be put.
@@ -12,15 +12,15 @@ pub struct Output {
 
 /// Why no file is put.
 #[derive(Debug, Drop)]
-pub enum Stop<'w> {
+pub enum Stop {
     /// This stands against the input.
-    Refused(Refusal<'w>),
+    Refused(Refusal),
     /// A file couldn't be read.
     Unread,
     Memory,
 }
 
-impl From<AllocError> for Stop<'_> {
+impl From<AllocError> for Stop {
     ghost use Rattle.std.specs.Prelude.{◌≡◌};
     ghost use Rattle.qz_driver.specs.declared.work.Stop.TheVariants.{Memory};
 

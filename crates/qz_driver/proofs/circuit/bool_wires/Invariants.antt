@@ -1,6 +1,0 @@
-use Rattle.std.proofs.Common.{◌≡◌, map, take}
-use Rattle.qz_driver.specs.BitNets.{bool_wire}
-use Rattle.qz_driver.proofs.circuit.bool_wires.Given as goal
-
-abbrev pub invariant-loop-right : goal.invariant-loop-right
-invariant-loop-right l = l.wires ≡ map bool_wire (take l.right-index l.rights)

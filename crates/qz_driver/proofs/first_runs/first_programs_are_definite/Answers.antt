@@ -1,5 +1,0 @@
-use Rattle.qz_driver.proofs.AlwaysDefinite.{always_definite}
-use Rattle.qz_driver.proofs.first_runs.first_programs_are_definite.Goals as goal
-
-pub returns : goal.returns
-returns c = always_definite

@@ -1,5 +1,0 @@
-use Rattle.qz_driver.proofs.FirstResuming.{is_still_where_control_is_away}
-use Rattle.qz_driver.proofs.first_runs.is_still_where_control_is_away.Goals as goal
-
-pub returns : goal.returns
-returns c = is_still_where_control_is_away

@@ -1,5 +1,0 @@
-use Rattle.qz_driver.proofs.FirstResuming.{resumes_as_its_bits}
-use Rattle.qz_driver.proofs.first_runs.resumes_as_its_bits.Goals as goal
-
-pub returns : goal.returns
-returns c = resumes_as_its_bits

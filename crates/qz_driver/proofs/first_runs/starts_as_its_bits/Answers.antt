@@ -1,5 +1,0 @@
-use Rattle.qz_driver.proofs.StartMirror.{starts_as_its_bits}
-use Rattle.qz_driver.proofs.first_runs.starts_as_its_bits.Goals as goal
-
-pub returns : goal.returns
-returns c = starts_as_its_bits

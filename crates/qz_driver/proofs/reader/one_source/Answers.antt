@@ -1,5 +1,0 @@
-use Rattle.qz_driver.proofs.SourceLemmas.{same_source}
-use Rattle.qz_driver.proofs.reader.one_source.Goals as goal
-
-pub returns : goal.returns
-returns c bytes m n source other = same_source bytes m n source other

@@ -1,5 +1,0 @@
-use Rattle.std.proofs.Common.{◌≡◌, replicate, None}
-use Rattle.qz_driver.proofs.typing.unlabeled.Given as goal
-
-abbrev pub invariant-loop : goal.invariant-loop
-invariant-loop l = l.labels ≡ replicate l.counter None
