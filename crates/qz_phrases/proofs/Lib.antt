@@ -1,0 +1,13 @@
+pub mod Ahead
+pub mod Combining
+pub mod Tokens
+pub mod Sizes
+pub mod Spines
+pub mod Climbing
+pub mod Operands
+pub mod Tails
+pub mod Fills
+pub mod Lists
+pub mod Typings
+pub mod Following
+pub mod Handing
