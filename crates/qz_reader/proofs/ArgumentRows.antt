@@ -15,3 +15,6 @@ comma_comes now after moves is others agrees levels at rest h = let e = ap is_co
 
 pub no_comma_comes : (now after : Cursor) → Moves now after → is_comma (first (upcoming now)) ≡ false → (others : List Spot) → Agrees after others → (levels : ℕ) (x : FileExpr) (rest : List Spot) → next_arg levels x (drop now.read others) rest → ⊥
 no_comma_comes now after moves is others agrees levels x rest h = let e = ap is_comma (ap first (sym h.2.1) ∙ agrees_here now others (agrees_before now after others moves agrees)) ∙ is in cc (e)
+
+pub no_comma_before : (now after : Cursor) → Moves now after → is_comma (first (upcoming now)) ≡ false → (others : List Spot) → Agrees after others → (at : ℕ) (rest : List Spot) → one mark.Comma at (drop now.read others) rest → ⊥
+no_comma_before now after moves is others agrees at rest h = let e = ap is_comma (ap first (sym h) ∙ agrees_here now others (agrees_before now after others moves agrees)) ∙ is in cc (e)

@@ -4,3 +4,7 @@ pub mod StatementFills
 pub mod StatementDepth
 pub mod Listing
 pub mod ArgumentRows
+pub mod Led
+pub mod FormalFills
+pub mod Prototypes
+pub mod Wholes

@@ -1,2 +1,5 @@
 pub mod Starts
 pub mod Statements
+pub mod Formals
+pub mod Files
+pub mod Texts
