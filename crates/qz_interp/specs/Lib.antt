@@ -12,3 +12,5 @@ pub mod Entering
 pub mod Keeping
 pub mod InstanceTexts
 pub mod OnlySteps
+pub mod Tables
+pub mod Machines

@@ -1,8 +1,8 @@
 //! The interpreter: macro steps of a whole program, by rounds from no knowledge up.
 //!
-//! A step is done by its rounds: the walk's writes, verdicts on them by the numbers of instances, what the
-//! instances settle to, the rounds up to the last one, and whether that is definite or which instance is
-//! the first that isn't. The machine that goes from step to step isn't there yet.
+//! A machine goes from step to step. Below it are the rounds of one step: the walk's writes, verdicts on
+//! them by the numbers of instances, what the instances settle to, the rounds up to the last one, and
+//! whether that is definite or which instance is the first that isn't.
 #![tactic(auto)]
 
 mod decisions;
@@ -12,15 +12,18 @@ mod instance_texts;
 mod keeping;
 pub mod laws;
 mod lists;
+mod machine;
 mod rounds;
 mod settling;
 mod slots;
 mod steps;
+mod tables;
 mod tallies;
 mod verdicts;
 
 pub use decisions::decide;
 pub use doubts::{Doubted, first_doubted};
+pub use machine::Machine;
 pub use rounds::{Sheet, run_rounds, settle_round};
 pub use slots::{Entry, Slot, settle_delayed, settle_values};
 pub use steps::StepRefusal;
