@@ -1,0 +1,15 @@
+pub mod Placing
+pub mod Growing
+pub mod Bits
+pub mod Insides
+pub mod Resuming
+pub mod ResumingMembers
+pub mod Resumes
+pub mod Starting
+pub mod StartingMembers
+pub mod Moving
+pub mod MovingBodies
+pub mod MovingSuspends
+pub mod MovingMembers
+pub mod Following
+pub mod Lively

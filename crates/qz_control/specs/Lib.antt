@@ -1,0 +1,12 @@
+pub mod Leaves
+pub mod Circuits
+pub mod Contexts
+pub mod Typed
+pub mod Guarded
+pub mod Mirrors
+pub mod MemberMirrors
+pub mod BodyMirrors
+pub mod Mirror
+pub mod Ready
+pub mod Follows
+pub mod Shown
