@@ -13,3 +13,6 @@ pub mod MovingSuspends
 pub mod MovingMembers
 pub mod Following
 pub mod Lively
+pub mod Members
+pub mod Valued
+pub mod Choosing

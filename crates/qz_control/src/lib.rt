@@ -12,6 +12,7 @@ mod guards;
 mod laws;
 mod leaves;
 mod marks;
+mod resting;
 
 pub use circuit::Circuit;
 pub use guards::{body_guard, start_guard, unless};
@@ -21,3 +22,4 @@ pub use laws::{
 };
 pub use leaves::LeafKind;
 pub use marks::Marks;
+pub use resting::inside;
