@@ -29,3 +29,11 @@ pub inside_choice : (scene : Scene) (s : Stmt) (condition : Expr) (first second 
 inside_choice scene s condition first second one two b id x y is one_is two_is so x_is y_is =
     so ∙ ap₂ (λ i j. either i j) (x_is ∙ ap (λ p. (mirror_of scene p).inside b) one_is) (y_is ∙ ap (λ p. (mirror_of scene p).inside b) two_is)
     ∙ sym (ap (λ (m : Mirror). m.inside b) (ap (mirror_of scene) is ∙ mirror-If scene condition first second))
+
+pub if_ok : {A E : Type 0} (r : Result A E) (P Q : A → Type 0) → IfOk r P → ((x : A) → P x → Q x) → IfOk r Q
+if_ok (Ok x) P Q p f = f x p
+if_ok (Err e) P Q p f = p
+
+pub on_ok : {A E : Type 0} (r : Result A E) {P Q : Type 0} → (P → Q) → OnOk r P → OnOk r Q
+on_ok (Ok x) f p = f p
+on_ok (Err e) f p = p

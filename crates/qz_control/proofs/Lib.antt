@@ -16,3 +16,4 @@ pub mod Lively
 pub mod Members
 pub mod Valued
 pub mod Choosing
+pub mod Evaluated

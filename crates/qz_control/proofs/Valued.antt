@@ -1,8 +1,10 @@
 -- Types of operands that stay, as the circuit grows.
-use Rattle.std.proofs.Common.{◌≡◌, Option, Some, None, IsSome, refl}
+use Rattle.std.proofs.Common.{◌≡◌, true, Option, Some, None, IsSome, refl}
 use Rattle.std.proofs.lemmas.Bool.{false≢true}
 use Rattle.std.specs.Option.{option_and_then}
 use Rattle.qz_values.specs.declared.Ty.{Ty}
+use Rattle.qz_values.specs.declared.Ty.TheVariants.{Bool as Truth, Bv}
+use Rattle.qz_syntax.specs.Typing.{is_condition}
 use Rattle.qz_nets.specs.declared.net.NetId.{NetId}
 use Rattle.qz_nets.specs.Readings.{type_in}
 use Rattle.qz_control.specs.declared.circuit.Circuit.{Circuit}
@@ -26,3 +28,13 @@ pub some_third : {A B C D : Type 0} (f : A → B → C → Option D) (o : Option
     → IsSome (option_and_then (λ x. option_and_then (λ y. option_and_then (λ z. f x y z) q) p) o) → IsSome p × IsSome q
 some_third f None p q h = absurd (false≢true h)
 some_third f (Some x) p q h = (some_first (λ y. option_and_then (λ z. f x y z) q) p h, some_second (f x) p q h)
+
+-- a test is a bool
+pub test_type : (t : Option Ty) → is_condition t ≡ true → t ≡ Some Truth
+test_type (Some Truth) h = refl
+test_type (Some (Bv width)) h = absurd (false≢true h)
+test_type None h = absurd (false≢true h)
+
+pub test_some : (t : Option Ty) → is_condition t ≡ true → IsSome t
+test_some (Some t) h = refl
+test_some None h = h

@@ -8,13 +8,16 @@
 #![tactic(auto, using(crate::proofs::Growing::through))]
 
 mod circuit;
+mod conditions;
 mod guards;
 mod laws;
 mod leaves;
 mod marks;
 mod resting;
+mod values;
 
 pub use circuit::Circuit;
+pub use conditions::test;
 pub use guards::{body_guard, start_guard, unless};
 pub use laws::{
     mirrors_walk_as_the_statement, nets_follow_the_statement, nets_resume_the_statement,
@@ -23,3 +26,4 @@ pub use laws::{
 pub use leaves::LeafKind;
 pub use marks::Marks;
 pub use resting::inside;
+pub use values::value;
