@@ -1,6 +1,6 @@
 #!/usr/bin/env bash
-# Runs the built program over real files and compares its answers: the examples of this folder, and
-# a call for each status that real files can bring about.
+# Runs the built program over real files and compares its answers: the examples of this folder, built
+# and run for 20 steps, and a call for each status that real files can bring about.
 set -u
 here=$(cd "$(dirname "${BASH_SOURCE[0]}")" && pwd)
 program=$here/../crates/quartzc/out/quartzc
@@ -34,7 +34,17 @@ cp "$here"/*.qz .
 for name in T Blink Phases; do
     expect 0 '' build "$name" "$name.qz"
     same "$name.v" "$here/$name.v"
+    yes '' | head -n 20 >"$name.in"
+    expect 0 '' sim "$name" "$name.v"
+    same "$name.out" "$here/$name.steps"
 done
+expect 1 'T.v: module is T' sim Blink T.v
+expect 1 'T.qz: bad Verilog at line 1' sim T T.qz
+expect 1 'no.v: absent' sim T no.v
+printf '\n0\n' >T.in
+expect 1 'T.in: line 2 wrong count' sim T T.v
+rm T.in
+expect 1 'T.in: absent' sim T T.v
 expect 1 'no.qz: absent' build T no.qz
 expect 1 'T.qz: not built yet' build U T.qz
 printf 'module T(event !o){ loop { emit o; } }' >loop.qz
