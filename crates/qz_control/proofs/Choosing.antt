@@ -1,5 +1,5 @@
 -- What is answered, from what was answered before it.
-use Rattle.std.proofs.Common.{◌≡◌, Result, Ok, Err, IfOk, OnOk, refl, sym, ap, ap₂, ◌∙◌}
+use Rattle.std.proofs.Common.{◌≡◌, Result, Ok, Err, IfOk, OnOk, sym, ap, ap₂, ◌∙◌}
 use Rattle.qz_values.specs.declared.Know.{Know}
 use Rattle.qz_values.specs.Knowledge.{either}
 use Rattle.qz_syntax.specs.declared.expressions.Expr.{Expr}

@@ -1,5 +1,5 @@
 -- One more member, in the functions of the mirror over a list.
-use Rattle.std.proofs.Common.{◌≡◌, ℕ, ◌+◌, ◌<◌, Bool, true, false, List, ◌∷◌, map, length, drop, get_or, refl, sym, ap, ap₂, true≢false, arith, ◌∙◌}
+use Rattle.std.proofs.Common.{◌≡◌, ℕ, ◌+◌, ◌<◌, Bool, true, false, List, ◌∷◌, map, length, drop, get_or, refl, sym, ap, true≢false, arith, ◌∙◌}
 use Rattle.std.specs.List.{list_all}
 use Rattle.std.proofs.lemmas.List.{at_drop_more, get_or-map}
 use Rattle.std.proofs.lemmas.List.Folds.{list_all_at}

@@ -1,4 +1,4 @@
-use Rattle.std.proofs.Common.{◌≡◌, refl, sym, ap, ap₂, subst, IsSome, ◌∙◌}
+use Rattle.std.proofs.Common.{◌≡◌, sym, ap, ap₂, subst, IsSome, ◌∙◌}
 use Rattle.std.specs.Option.{option_and_then}
 use Rattle.qz_values.specs.Knowledge.{apply1_of, apply2_of, choose_of, bit_of, slice_of, concat_of}
 use Rattle.qz_values.specs.Tables.{type2_of, choose_type, concat_type}
