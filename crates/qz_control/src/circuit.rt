@@ -1,6 +1,6 @@
 //! Nets over leaves, each leaf having the number that its kind has.
 
-ghost use Rattle.std.specs.Prelude.{◌≡◌, ◌<◌, ◌^◌, length, Some, IsSome, slice_get, IfOk, OnOk};
+ghost use Rattle.std.specs.Prelude.{◌≡◌, ◌<◌, ◌^◌, [], length, Some, IsSome, slice_get, IfOk, OnOk};
 ghost use Rattle.qz_values.specs.declared.Ty.TheVariants.{Bool as Truth};
 ghost use Rattle.qz_values.specs.declared.Know.TheVariants.{Known};
 ghost use Rattle.qz_values.specs.Types.{IsType};
@@ -9,7 +9,7 @@ ghost use Rattle.std.specs.Option.{option_and_then};
 ghost use Rattle.qz_values.specs.Tables.{type1_of, type2_of, choose_type, bit_type, slice_type, concat_type};
 ghost use Rattle.qz_values.specs.Knowledge.{both, either, opposite, apply1_of, apply2_of, choose_of, bit_of, slice_of, concat_of};
 ghost use Rattle.qz_nets.specs.Nets.{net_type, net_know, constant_type};
-ghost use Rattle.qz_nets.specs.Readings.{type_in};
+ghost use Rattle.qz_nets.specs.Readings.{count, type_in};
 ghost use Rattle.qz_control.specs.Leaves.{leaf_known};
 ghost use Rattle.qz_control.specs.Circuits.{known, Means, Grows, IsBool};
 
@@ -28,7 +28,10 @@ pub struct Circuit {
 
 impl Circuit {
     /// No net and no leaf.
-    pub fn new(alloc: Global) -> Circuit {
+    pub fn new(alloc: Global) -> Circuit
+        ensures nets { count result.table ≡ 0 }
+        ensures leaves { result.leaves.keys ≡ [] }
+    {
         Circuit {
             table: NetTable::new(alloc),
             leaves: IndexSet::new(alloc),
