@@ -7,7 +7,11 @@
 #[cfg(test)]
 mod building;
 #[cfg(test)]
+mod forms;
+#[cfg(test)]
 mod programs;
+#[cfg(test)]
+mod reactions;
 #[cfg(test)]
 mod rows;
 #[cfg(test)]

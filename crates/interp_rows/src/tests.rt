@@ -1,5 +1,7 @@
 //! The rows, by what their programs do.
 
+use crate::forms::FORMS;
+use crate::reactions::{self, Reaction};
 use crate::rows;
 use crate::runs::{self, Row};
 use std::alloc::Global;
@@ -10,6 +12,15 @@ use std::test::Fail;
 fn run_as_said(rt: &impl Abort, alloc: Global, rows: &[Row]) -> Result<(), Fail> {
     for row in rows {
         let text = runs::text_of(alloc, row)?;
+        assert_eq!(rt; text.as_str(), row.text);
+    }
+    Ok(())
+}
+
+/// That each row's statement does what the row says.
+fn react_as_said(rt: &impl Abort, alloc: Global, rows: &[Reaction]) -> Result<(), Fail> {
+    for row in rows {
+        let text = reactions::text_of(alloc, row)?;
         assert_eq!(rt; text.as_str(), row.text);
     }
     Ok(())
@@ -68,4 +79,9 @@ fn a_sum_is_cut_to_its_width(rt: HostRuntime) -> Result<(), Fail> {
 #[test]
 fn no_side_is_entered_before_it_is_chosen(rt: HostRuntime) -> Result<(), Fail> {
     run_as_said(&rt, rt.alloc(), &rows::BUSY)
+}
+
+#[test]
+fn each_form_does_what_it_has_to(rt: HostRuntime) -> Result<(), Fail> {
+    react_as_said(&rt, rt.alloc(), &FORMS)
 }
