@@ -102,8 +102,7 @@ fn slot(row: &Row) -> Result<Slot, Fail> {
 fn tally(alloc: Global, writers: &[u64]) -> Result<Tally, Fail> {
     let yes = Know::Known(Value::truth(true));
     let no = Know::Known(Value::truth(false));
-    let mut tally = Tally::new(alloc);
-    tally.reset(1)?;
+    let mut tally = Tally::make(alloc, 1)?;
     tally.add(0, no, Know::Known(byte(9)?));
     for bits in writers {
         tally.add(0, yes, Know::Known(byte(*bits)?));

@@ -10,3 +10,7 @@ pub mod RunLemmas
 pub mod EnteringLemmas
 pub mod KeepingLemmas
 pub mod StepLemmas
+pub mod TouchLemmas
+pub mod RoundTouchLemmas
+pub mod DefiniteLemmas
+pub mod RestLemmas

@@ -1,13 +1,14 @@
 -- What isn't definite in an environment, and which of it comes first: in instance order, a value before its
 -- delayed value.
-use Rattle.std.specs.Prelude.{ℕ, ◌+◌, true, false, List, [], ◌∷◌, Option, Some, None, slice_index_or}
-use Rattle.std.specs.Option.{option_map, option_or}
+use Rattle.std.specs.Prelude.{ℕ, ◌+◌, Bool, true, false, List, [], ◌∷◌, Option, Some, None, slice_index_or, if◌then◌else◌}
+use Rattle.std.specs.Option.{option_map, option_or, is_some}
 use Rattle.qz_values.specs.declared.Know.{Know}
 use Rattle.qz_values.specs.declared.Know.TheVariants as know
 use Rattle.qz_syntax.specs.declared.places.Later.{Later}
 use Rattle.qz_syntax.specs.declared.places.Later.TheVariants as later
 use Rattle.qz_syntax.specs.declared.refusals.Doubt.{Doubt}
 use Rattle.qz_syntax.specs.declared.refusals.Doubt.TheVariants as why
+use Rattle.qz_react.specs.declared.environments.Met.{Met}
 use Rattle.qz_interp.specs.declared.doubts.Doubted.{Doubted}
 use Rattle.qz_interp.specs.declared.slots.Entry.{Entry}
 use Rattle.qz_interp.specs.declared.slots.Entry.TheVariants.{Unmet, New, Kept}
@@ -44,3 +45,10 @@ doubted_from number [] known delayed = None
 doubted_from number (slot ∷ slots) known delayed =
     option_or (doubted_in slot.entry number (slice_index_or known number know.Unknown) (slice_index_or delayed number later.Unknown))
     (doubted_from (number + 1) slots known delayed)
+
+-- nothing is in doubt at any of these
+abbrev pub are_definite : List Met → List Know → List Later → Bool
+are_definite [] known delayed = true
+are_definite (one ∷ met) known delayed =
+    if is_some (doubted_at one.instance (slice_index_or known one.instance know.Unknown) (slice_index_or delayed one.instance later.Unknown))
+    then false else are_definite met known delayed

@@ -6,11 +6,13 @@ pub mod RoundTables
 pub mod Doubts
 pub mod FirstDoubts
 pub mod LastRounds
+pub mod Touching
 pub mod Walked
 pub mod Beginning
 pub mod Entering
 pub mod Keeping
 pub mod InstanceTexts
 pub mod OnlySteps
+pub mod Resting
 pub mod Tables
 pub mod Machines

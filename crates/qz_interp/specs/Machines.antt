@@ -5,11 +5,11 @@ use Rattle.qz_syntax.specs.declared.modules.Whole.{Whole}
 use Rattle.qz_meaning.specs.Programs.{program_of}
 use Rattle.qz_meaning.specs.Configurations.{Configuration, initial}
 use Rattle.qz_interp.specs.declared.machine.Machine.{Machine}
-use Rattle.qz_interp.specs.OnlySteps.{FitsStep}
+use Rattle.qz_interp.specs.OnlySteps.{FitsStep, state_of}
 
 -- the place of control, and what the outputs keep
 abbrev pub configuration_of : Machine → Configuration
-configuration_of machine = record { place = machine.place; outputs = machine.outputs.items }
+configuration_of machine = state_of machine.state
 
 -- a machine of this program at its beginning
 pub record IsAtBeginning (w : Whole) (machine : Machine) : Type 0 where

@@ -10,11 +10,16 @@ use Rattle.qz_meaning.specs.Rounds.{IsDefinite}
 use Rattle.qz_meaning.specs.MacroSteps.{IsStep, HaveOneSolution}
 use Rattle.qz_react.specs.declared.environments.Env.{Env}
 use Rattle.qz_interp.specs.declared.doubts.Doubted.{Doubted}
+use Rattle.qz_interp.specs.declared.steps.State.{State}
 use Rattle.qz_interp.specs.declared.steps.StepRefusal.{StepRefusal}
 use Rattle.qz_interp.specs.declared.steps.StepRefusal.TheVariants.{NotDefinite, Memory}
 use Rattle.qz_interp.specs.declared.slots.Slot.{Slot}
 use Rattle.qz_interp.specs.Beginning.{BeginsRounds}
 use Rattle.qz_interp.specs.LastRounds.{AreLastRound, Decides, IsRefusedFor}
+
+-- the configuration that a state is
+abbrev pub state_of : State → Configuration
+state_of state = record { place = state.place; outputs = state.outputs.items }
 
 -- the lists with which the rounds of a step begin, and how many rounds are enough
 pub record IsPrepared (m : Module) (c : Configuration) (row : List Value) (slots : List Slot) (env : Env) (most : ℕ) : Type 0 where

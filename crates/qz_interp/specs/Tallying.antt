@@ -39,6 +39,11 @@ abbrev pub tallied : Bool → List Verdict → List Numbered → List Verdict
 tallied delayed verdicts [] = verdicts
 tallied delayed verdicts (w ∷ ws) = tallied delayed (with_write delayed verdicts w) ws
 
+-- the verdicts once those of the instances that some writes are to are taken away
+abbrev pub cleared : List Verdict → List Numbered → List Verdict
+cleared verdicts [] = verdicts
+cleared verdicts (w ∷ ws) = cleared (slice_set verdicts w.number Nobody) ws
+
 -- where each instance has one number, the table has for each instance the verdict on its writes, from the
 -- verdict that it had
 abbrev pub TalliesAreVerdicts : Type 0

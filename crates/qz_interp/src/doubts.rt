@@ -2,11 +2,13 @@
 
 ghost use Rattle.std.specs.Prelude.{◌≡◌, true, slice_index_or};
 ghost use Rattle.std.specs.Option.{option_map};
-ghost use Rattle.qz_values.specs.declared.Know.TheVariants.{Unknown};
-ghost use Rattle.qz_syntax.specs.declared.places.Later.TheVariants as later;
-ghost use Rattle.qz_interp.specs.Doubts.{doubt_of, doubt_of_later, doubted_at, doubted_in, doubted_from};
+ghost use Rattle.qz_interp.specs.Doubts.{doubt_of, doubt_of_later, doubted_at, doubted_in, doubted_from, are_definite};
+ghost use Rattle.qz_interp.specs.Touching.{Suits};
 
+use crate::knowing::{delayed_at, known_at};
+use crate::rounds::Setting;
 use crate::slots::{Entry, Slot};
+use qz_react::{Env, Met};
 use qz_syntax::{Doubt, Later};
 use qz_values::Know;
 
@@ -20,8 +22,34 @@ pub struct Doubted {
 }
 
 /// The first instance that the step meets and that isn't definite, by its number; its value comes before
-/// its delayed value.
-pub fn first_doubted(slots: &[Slot], known: &[Know], delayed: &[Later]) -> Option<Doubted>
+/// its delayed value. The instances are gone through in their order only where one isn't definite.
+#[tactic(auto, using(crate::proofs::DefiniteLemmas::nothing_doubted))]
+pub(crate) fn first_doubted_met(setting: &Setting<'_>, env: &Env) -> Option<Doubted>
+    requires suits { Suits setting.now.slots.now setting.now.met.now env.now }
+    ensures { result ≡ doubted_from 0 setting.now.slots.now env.entry.now.now.items env.entry.now.later.items }
+{
+    if are_definite(setting.met, &env.now, &env.later) {
+        return None;
+    }
+    first_doubted(setting.slots, &env.now, &env.later)
+}
+
+/// Whether each of these is definite.
+fn are_definite(met: &[Met], known: &[Know], delayed: &[Later]) -> bool
+    ensures { result ≡ are_definite met.now known.now delayed.now }
+{
+    for one in met {
+        let number = one.instance as usize;
+        let doubted = doubted_at(number, known_at(known, number), delayed_at(delayed, number));
+        if doubted.is_some() {
+            return false;
+        }
+    }
+    true
+}
+
+/// The first instance that isn't definite, among all.
+fn first_doubted(slots: &[Slot], known: &[Know], delayed: &[Later]) -> Option<Doubted>
     ensures { result ≡ doubted_from 0 slots.now known.now delayed.now }
 {
     for (number, slot) in slots.iter().enumerate() {
@@ -93,25 +121,5 @@ fn doubt_of_later(delayed: Later) -> Option<Doubt>
         Later::Unknown => Some(Doubt::Unknown),
         Later::Absent | Later::Known(_) => None,
         Later::Clash => Some(Doubt::Clash),
-    }
-}
-
-/// What is known of the instance with this number: nothing where there is none.
-pub(crate) fn known_at(known: &[Know], number: usize) -> Know
-    ensures { result ≡ slice_index_or known.now number Unknown }
-{
-    match known.get(number) {
-        Some(known) => *known,
-        None => Know::Unknown,
-    }
-}
-
-/// What is known of its delayed value.
-pub(crate) fn delayed_at(delayed: &[Later], number: usize) -> Later
-    ensures { result ≡ slice_index_or delayed.now number later.Unknown }
-{
-    match delayed.get(number) {
-        Some(delayed) => *delayed,
-        None => Later::Unknown,
     }
 }

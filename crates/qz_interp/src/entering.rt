@@ -11,7 +11,7 @@ ghost use Rattle.qz_react.specs.Seeing.{instance_of, met_by};
 ghost use Rattle.qz_interp.specs.RoundTables.{entry_with};
 ghost use Rattle.qz_interp.specs.Entering.{blank_slot, no_slot, first_entry, with_entry, with_met, entered, outputs_met};
 
-use crate::slots::{Entry, Slot};
+use crate::slots::{Entry, Slot, slot_at};
 use qz_react::{Instance, Met, Walker, meet};
 use qz_syntax::{Class, Module, Place, Store, Var, Whole};
 use qz_values::{Ty, Value};
@@ -109,22 +109,8 @@ fn add_output(number: usize, store: Store, met: &mut Vec<Met>) -> Result<(), All
     }
 }
 
-/// Sets the slots of a step that meets these instances.
-pub(crate) fn fill_slots(
-    blank: &[Slot],
-    met: &[Met],
-    slots: &mut Vec<Slot>,
-) -> Result<(), AllocError>
-    ensures { OnOk result (slots.new.items ≡ entered blank.now met.now) }
-{
-    slots.clear();
-    slots.extend_from_slice(blank)?;
-    enter(slots, met);
-    Ok(())
-}
-
 /// Lets the step come to these instances.
-fn enter(slots: &mut Vec<Slot>, met: &[Met])
+pub(crate) fn enter(slots: &mut Vec<Slot>, met: &[Met])
     ensures { slots.new.items ≡ entered slots.old.items met.now }
 {
     for one in met {
@@ -140,20 +126,6 @@ fn enter_one(slots: &mut Vec<Slot>, one: Met)
     let slot = with_entry(slot_at(slots, number), entry_with(one.store));
     if number < slots.len() {
         slots[number] = slot;
-    }
-}
-
-/// The slot with this number, or one of nothing.
-pub(crate) fn slot_at(slots: &[Slot], number: usize) -> Slot
-    ensures { result ≡ slice_index_or slots.now number no_slot }
-{
-    match slots.get(number) {
-        Some(slot) => *slot,
-        None => Slot {
-            class: Class::Event,
-            default: Value::truth(false),
-            entry: Entry::Unmet,
-        },
     }
 }
 

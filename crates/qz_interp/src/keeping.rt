@@ -10,9 +10,8 @@ ghost use Rattle.qz_meaning.specs.Programs.{is_same_direction};
 ghost use Rattle.qz_interp.specs.Slots.{new_by};
 ghost use Rattle.qz_interp.specs.Keeping.{output_types, value_of_known, unmarked_by, kept_by, kept_at, outputs_kept};
 
-use crate::doubts::{delayed_at, known_at};
-use crate::entering::slot_at;
-use crate::slots::{Slot, new_store};
+use crate::knowing::{delayed_at, known_at};
+use crate::slots::{Slot, new_store, slot_at};
 use qz_react::Env;
 use qz_syntax::{Class, Dir, Formal, Later, Store};
 use qz_values::{Know, Ty, Value};

@@ -10,7 +10,7 @@ ghost use Rattle.qz_interp.specs.Tables.{AreTablesOf};
 
 use crate::instance_texts::text_at;
 use crate::keeping::first_stores;
-use crate::steps::{StepRefusal, take_step};
+use crate::steps::{State, StepRefusal, take_step};
 use crate::tables::Tables;
 use qz_syntax::{Place, Store, Whole};
 use qz_values::Value;
@@ -21,8 +21,7 @@ use std::alloc::{AllocError, Global};
 #[derive(Drop)]
 pub struct Machine {
     whole: Whole,
-    place: Place,
-    outputs: Vec<Store>,
+    state: State,
     tables: Tables,
     ghost tables_fit: { AreTablesOf whole tables } by { Prim.hlevel props },
 }
@@ -52,8 +51,10 @@ impl Machine {
         match begin(alloc, &w) {
             Ok((tables, outputs)) => Ok(Machine {
                 whole: w,
-                place: Place::NotStarted,
-                outputs,
+                state: State {
+                    place: Place::NotStarted,
+                    outputs,
+                },
                 tables,
             }),
             Err(AllocError) => Err(AllocError),
@@ -84,10 +85,8 @@ impl Machine {
         take_step(
             alloc,
             &self.whole,
-            &mut self.tables.walker,
-            &mut self.place,
-            &mut self.outputs,
-            &mut self.tables.lists,
+            &mut self.tables,
+            &mut self.state,
             inputs,
             outputs,
         )

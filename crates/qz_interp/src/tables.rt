@@ -27,10 +27,11 @@ impl Tables {
         let walker = Walker::make(alloc, &w.module)?;
         let blank = blank_slots(alloc, &w.module, walker.instances())?;
         let texts = texts_of(alloc, w, walker.instances())?;
+        let lists = Lists::make(alloc, blank)?;
         Ok(Tables {
             walker,
             texts,
-            lists: Lists::new(alloc, blank),
+            lists,
         })
     }
 }

@@ -1,11 +1,13 @@
 //! Verdicts on the writers of all instances, by the instances' numbers.
 
-ghost use Rattle.std.specs.Prelude.{◌≡◌, [], OnOk, replicate, slice_index_or};
+ghost use Rattle.std.specs.Prelude.{◌≡◌, false, true, map, IfOk, replicate, slice_index_or, slice_set};
 ghost use Rattle.qz_meaning.specs.Verdicts.{Nobody, verdict_of_one};
 ghost use Rattle.qz_interp.specs.Seeing.{verdict_seen};
-ghost use Rattle.qz_interp.specs.Tallying.{with_one};
+ghost use Rattle.qz_interp.specs.Tallying.{with_one, tallied, cleared};
+ghost use Rattle.qz_interp.specs.Walked.{numbered};
 
 use crate::verdicts::Verdict;
+use qz_react::Write;
 use qz_values::Know;
 use std::alloc::{AllocError, Global};
 use std::marker::Model;
@@ -27,22 +29,13 @@ impl Model for Tally {
 }
 
 impl Tally {
-    /// Of no instances.
-    pub fn new(alloc: Global) -> Tally
-        ensures { result ≡ [] }
-    {
-        Tally {
-            verdicts: Vec::new(alloc),
-        }
-    }
-
     /// Of so many instances, of which none has a writer.
-    pub fn reset(&mut self, count: usize) -> Result<(), AllocError>
-        ensures { OnOk result (self.new ≡ replicate count Nobody) }
+    pub fn make(alloc: Global, count: usize) -> Result<Tally, AllocError>
+        ensures { IfOk result (λ tally. tally ≡ replicate count Nobody) }
     {
-        self.verdicts.clear();
-        self.verdicts.resize(count, Verdict::Nobody)?;
-        Ok(())
+        let mut verdicts = Vec::new(alloc);
+        verdicts.resize(count, Verdict::Nobody)?;
+        Ok(Tally { verdicts })
     }
 
     /// The verdict on an instance's writers.
@@ -63,5 +56,39 @@ impl Tally {
         if number < self.verdicts.len() {
             self.verdicts[number] = verdict;
         }
+    }
+
+    /// Takes an instance's writers away; a number that no instance has changes nothing.
+    pub fn clear(&mut self, number: usize)
+        ensures { self.new ≡ slice_set self.old number Nobody }
+    {
+        if number < self.verdicts.len() {
+            self.verdicts[number] = Verdict::Nobody;
+        }
+    }
+}
+
+/// Adds the writers that some writes are, to the tally of present ones or of delayed ones.
+pub(crate) fn tally_writes(now: &mut Tally, later: &mut Tally, writes: &[Write])
+    ensures now { now.new ≡ tallied false now.old (map numbered writes.now) }
+    ensures later { later.new ≡ tallied true later.old (map numbered writes.now) }
+{
+    for write in writes {
+        if write.delayed {
+            later.add(write.instance as usize, write.guard, write.value);
+        } else {
+            now.add(write.instance as usize, write.guard, write.value);
+        }
+    }
+}
+
+/// Takes the writers of the instances that some writes are to away again.
+pub(crate) fn clear_writes(now: &mut Tally, later: &mut Tally, writes: &[Write])
+    ensures now { now.new ≡ cleared now.old (map numbered writes.now) }
+    ensures later { later.new ≡ cleared later.old (map numbered writes.now) }
+{
+    for write in writes {
+        now.clear(write.instance as usize);
+        later.clear(write.instance as usize);
     }
 }

@@ -12,11 +12,12 @@ use Rattle.qz_interp.proofs.rounds.settle_round.Goals as goal
 
 pub returns-clause-round : goal.returns-clause-round
 returns-clause-round c =
-    λ (config : Configuration) (row : List Value) (e : Environment) (is_at : config.place ≡ c.args.place.now)
-    (are : AreSlotsOf (program_of c.args.w.now.module) config c.args.slots.now) (tells : Tells (program_of c.args.w.now.module) c.args.env.now e).
-    let p = program_of c.args.w.now.module in
-    let does = map Some (writes_at (body_under p e) c.args.place.now) in
+    λ (config : Configuration) (row : List Value) (e : Environment) (is_at : config.place ≡ c.args.setting.now.place.now)
+    (are : AreSlotsOf (program_of c.args.setting.now.whole.now.module) config c.args.setting.now.slots.now)
+    (tells : Tells (program_of c.args.setting.now.whole.now.module) c.args.env.now e).
+    let p = program_of c.args.setting.now.whole.now.module in
+    let does = map Some (writes_at (body_under p e) c.args.setting.now.place.now) in
     let walked : map (written p.instances) c.react.new.out.items ≡ does =
     (c.in_ok-react.ensures.reacts e tells).writes ∙ ap (λ (before : List Write). map (written p.instances) before ++ does) c.clear.ensures.items in
-    settles_next c.args.w.now.module config row e c.args.slots.now c.react.new.out.items c.settle_writes.new.sheet.values.items c.settle_writes.new.sheet.delayed.items
-    c.args.place.now is_at are walked c.in_ok-settle_writes.ensures.settled
+    settles_next c.args.setting.now.whole.now.module config row e c.args.setting.now.slots.now c.react.new.out.items c.settle_writes.new.env.now.items c.settle_writes.new.env.later.items
+    c.args.setting.now.place.now is_at are walked c.settle_writes.ensures.settled

@@ -1,6 +1,9 @@
-use Rattle.std.proofs.Common.{◌≡◌, ◌++◌, drop}
-use Rattle.qz_interp.specs.Slots.{laters_from}
+use Rattle.std.proofs.Common.{◌≡◌, false, drop}
+use Rattle.qz_interp.specs.Touching.{assigned, later_by}
 use Rattle.qz_interp.proofs.slots.settle_delayed.Given as goal
 
-abbrev pub invariant-loop-number : goal.invariant-loop-number
-invariant-loop-number l = l.out.items ++ laters_from l.number (drop l.number l.slots) l.writers ≡ laters_from 0 l.slots l.writers
+abbrev pub invariant-loop-one : goal.invariant-loop-one
+invariant-loop-one l = record {
+  settled : assigned (later_by l.slots l.writers) l.delayed.items (drop l.one-index l.met) ≡ assigned (later_by l.slots l.writers) l.initial.delayed.items l.met;
+  same : l.changed ≡ false → l.delayed.items ≡ l.initial.delayed.items;
+}

@@ -1,6 +1,9 @@
-use Rattle.std.proofs.Common.{◌≡◌, ◌++◌, drop}
-use Rattle.qz_interp.specs.Slots.{values_from}
+use Rattle.std.proofs.Common.{◌≡◌, false, drop}
+use Rattle.qz_interp.specs.Touching.{assigned, value_by}
 use Rattle.qz_interp.proofs.slots.settle_values.Given as goal
 
-abbrev pub invariant-loop-number : goal.invariant-loop-number
-invariant-loop-number l = l.out.items ++ values_from l.number (drop l.number l.slots) l.writers ≡ values_from 0 l.slots l.writers
+abbrev pub invariant-loop-one : goal.invariant-loop-one
+invariant-loop-one l = record {
+  settled : assigned (value_by l.slots l.writers) l.known.items (drop l.one-index l.met) ≡ assigned (value_by l.slots l.writers) l.initial.known.items l.met;
+  same : l.changed ≡ false → l.known.items ≡ l.initial.known.items;
+}

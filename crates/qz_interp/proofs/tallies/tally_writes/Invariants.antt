@@ -1,7 +1,7 @@
 use Rattle.std.proofs.Common.{◌≡◌, false, true, map, drop}
 use Rattle.qz_interp.specs.Tallying.{tallied}
 use Rattle.qz_interp.specs.Walked.{numbered}
-use Rattle.qz_interp.proofs.rounds.tally_writes.Given as goal
+use Rattle.qz_interp.proofs.tallies.tally_writes.Given as goal
 
 abbrev pub invariant-loop-write : goal.invariant-loop-write
 invariant-loop-write l = record {

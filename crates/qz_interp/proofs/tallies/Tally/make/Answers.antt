@@ -3,7 +3,7 @@ use Rattle.qz_meaning.specs.Verdicts as meaning
 use Rattle.qz_interp.specs.declared.verdicts.Verdict.{Verdict}
 use Rattle.qz_interp.specs.declared.verdicts.Verdict.TheVariants.{Nobody}
 use Rattle.qz_interp.specs.Seeing.{verdict_seen}
-use Rattle.qz_interp.proofs.tallies.Tally.reset.Goals as goal
+use Rattle.qz_interp.proofs.tallies.Tally.make.Goals as goal
 
 take_none : (n : ℕ) → take n (let none : List Verdict = [] in none) ≡ []
 take_none zero = refl
@@ -23,4 +23,5 @@ filled n items old len is none short =
 
 pub returns : goal.returns
 returns c =
-    filled c.args.count c.resize.new.self.items c.clear.new.self.items (vec_len c.clear.new.self) c.in_ok-resize.ensures.items c.clear.ensures.items c.clear.ensures.len
+    filled c.args.count c.resize.new.self.items c.new-verdicts.result.items (vec_len c.new-verdicts.result) c.in_ok-resize.ensures.items c.new-verdicts.ensures.items
+    c.new-verdicts.ensures.len
