@@ -1,8 +1,9 @@
 #!/usr/bin/env bash
-# Runs ABRO, parts in parallel that wait, and chains of locals each of which takes the one before it in the
-# same step. It prints steps per second, and how the time of a step grows from one size to the next, which
-# is twice as large: about 2 where it grows linearly, as for the parts, and about 4 for the chains, which
-# need a round for each local. At the end it prints how long it takes until the first step of a chain.
+# Runs ABRO, parts in parallel that wait, scopes in a side of an `if` that isn't taken, and chains of locals
+# each of which takes the one before it in the same step. It prints steps per second, and how the time of a
+# step grows from one size to the next, which is twice as large: about 2 where it grows linearly, as for the
+# parts, about 1 for the scopes, at which a step doesn't come past, and about 4 for the chains, which need a
+# round for each local. At the end it prints how long it takes until the first step of a chain.
 #
 # It needs the program crates/steps_bench, which it proves and builds where it isn't built yet.
 set -eu
@@ -57,5 +58,6 @@ begins() {
 
 measure abro 1000000 250000 1
 measure parallel 1000 0 1000 2000
+measure aside 1000000 999999 1000 2000
 measure chain 100 50 200 400
 begins chain 1000 2000 4000

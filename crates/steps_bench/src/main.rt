@@ -5,6 +5,7 @@
 //!
 //! - `abro`: ABRO, whose inputs come one after the other: none, `a`, `b`, `r`, and again; SIZE doesn't count;
 //! - `parallel`: so many parts that wait for `a`, which never comes, and then give the output;
+//! - `aside`: so many scopes in the side of an `if` that isn't taken; the output is true after the first step;
 //! - `chain`: so many locals of which each takes the value of the one before it in the same step; the first
 //!   takes `a`, which comes in every other step, and the output takes the last.
 #![tactic(auto)]
@@ -13,7 +14,7 @@ mod programs;
 mod runs;
 
 use anyhow::{Context, Result, bail};
-use programs::{abro, chain, parallel};
+use programs::{abro, aside, chain, parallel};
 use runs::{Inputs, run};
 use std::env;
 
@@ -28,8 +29,9 @@ fn main(rt: HostRuntime) -> Result<()> {
     let count = match task.as_str() {
         "abro" => run(alloc, abro(alloc)?, 3, Inputs::OneByOne, steps)?,
         "parallel" => run(alloc, parallel(alloc, size)?, 1, Inputs::Never, steps)?,
+        "aside" => run(alloc, aside(alloc, size)?, 1, Inputs::Never, steps)?,
         "chain" => run(alloc, chain(alloc, size)?, 1, Inputs::EveryOther, steps)?,
-        _ => bail!("TASK is abro, parallel or chain"),
+        _ => bail!("TASK is abro, parallel, aside or chain"),
     };
     println!(rt; "{count}")?;
     Ok(())

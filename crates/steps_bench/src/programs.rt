@@ -113,6 +113,37 @@ pub fn chain(alloc: Global, count: u32) -> Result<Whole> {
     )
 }
 
+/// So many scopes of one local each, in the side of an `if` that isn't taken. In the other side the output
+/// is given in each step after the first.
+pub fn aside(alloc: Global, count: u32) -> Result<Whole> {
+    let given = Stmt::Assign(Var::Formal(1), yes());
+    let turn = both(alloc, Stmt::Pause(0), given)?;
+    let taken = Boxed::new(alloc, forever(alloc, 0, turn)?)?;
+    let other = Boxed::new(alloc, scopes(alloc, count)?)?;
+    program(
+        alloc,
+        Counts {
+            inputs: 1,
+            locals: count,
+            places: 1,
+            loops: 1,
+        },
+        Stmt::If(yes(), taken, other),
+    )
+}
+
+/// So many scopes one after the other, in each of which a local takes the input.
+fn scopes(alloc: Global, count: u32) -> Result<Stmt> {
+    let mut all = Items::new(alloc);
+    for local in 0..count {
+        let taken = Stmt::Assign(Var::Local(local), Expr::Var(Var::Formal(0)));
+        let mut locals = Items::new(alloc);
+        locals.push(local)?;
+        all.push(Stmt::Scope(locals, Boxed::new(alloc, taken)?))?;
+    }
+    Ok(Stmt::Seq(all))
+}
+
 /// So many numbers, from 0 on.
 fn numbers(alloc: Global, count: u32) -> Result<Items<u32>> {
     let mut numbers = Items::new(alloc);
