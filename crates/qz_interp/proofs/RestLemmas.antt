@@ -1,5 +1,5 @@
 -- The lists between steps, and what a step leaves of them.
-use Rattle.std.proofs.Common.{◌≡◌, ◌≢◌, ◌<◌, ◌+◌, ℕ, zero, suc, Bool, true, false, List, [], ◌∷◌, map, length, Option, Some, None, get_or, set, replicate, refl, sym, ap, ap₂, subst, ◌∙◌, get_or-set_other, arith}
+use Rattle.std.proofs.Common.{◌≡◌, ℕ, zero, suc, Bool, true, false, List, [], ◌∷◌, map, length, get_or, replicate, refl, sym, ap, subst, ◌∙◌, get_or-set_other}
 use Rattle.std.specs.Prelude.{◌==◌, if◌then◌else◌}
 use Rattle.std.proofs.lemmas.Bool.{false≢true}
 use Rattle.std.proofs.lemmas.List.{length-set}
@@ -8,19 +8,15 @@ use Rattle.qz_syntax.specs.declared.modules.Module.{Module}
 use Rattle.qz_syntax.specs.declared.places.Later.TheVariants as later
 use Rattle.qz_meaning.specs.Instances.{Instance}
 use Rattle.qz_meaning.specs.Programs.{instances_of}
-use Rattle.qz_meaning.proofs.Orderly.{same_number}
-use Rattle.qz_react.specs.declared.environments.Env.{Env}
 use Rattle.qz_react.specs.declared.environments.Met.{Met}
 use Rattle.qz_interp.specs.declared.lists.Lists.{Lists}
-use Rattle.qz_interp.specs.declared.rounds.Sheet.{Sheet}
-use Rattle.qz_interp.specs.declared.slots.Entry.{Entry}
 use Rattle.qz_interp.specs.declared.slots.Entry.TheVariants.{Unmet}
 use Rattle.qz_interp.specs.declared.slots.Slot.{Slot}
 use Rattle.qz_interp.specs.Entering.{blank_slot, no_slot, with_entry, with_met, entered}
 use Rattle.qz_interp.specs.RoundTables.{entry_with}
 use Rattle.qz_interp.specs.Resting.{AreAtRest, AreTouched}
 use Rattle.qz_interp.specs.Touching.{is_among, assigned, OnlyThere, Suits, IsClear}
-use Rattle.qz_interp.proofs.TouchLemmas.{only_nothing, set_back, get_or_replicate, length-replicate, differs}
+use Rattle.qz_interp.proofs.TouchLemmas.{only_nothing, set_back, get_or_replicate, differs}
 
 -- only what is met is entered
 entered_elsewhere : (k : ℕ) (slots : List Slot) (met : List Met) → is_among met k ≡ false → get_or (entered slots met) k no_slot ≡ get_or slots k no_slot

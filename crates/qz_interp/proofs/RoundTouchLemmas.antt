@@ -1,7 +1,6 @@
 -- A round touches what is met alone, and what is met settles as it does with all.
-use Rattle.std.proofs.Common.{◌≡◌, ◌<◌, ◌+◌, ℕ, zero, suc, Bool, true, false, List, [], ◌∷◌, map, length, Option, Some, None, get_or, set, replicate, refl, sym, ap, ap₂, subst, ◌∙◌, arith}
+use Rattle.std.proofs.Common.{◌≡◌, ◌<◌, ◌+◌, ℕ, zero, suc, Bool, true, false, List, [], ◌∷◌, map, length, get_or, set, replicate, refl, sym, ap, subst, ◌∙◌, arith}
 use Rattle.std.specs.Prelude.{if◌then◌else◌}
-use Rattle.std.proofs.lemmas.List.{length-set}
 use Rattle.qz_values.specs.declared.Know.{Know}
 use Rattle.qz_values.specs.declared.Know.TheVariants as know
 use Rattle.qz_syntax.specs.declared.places.Later.{Later}
@@ -12,13 +11,12 @@ use Rattle.qz_react.specs.declared.environments.Met.{Met}
 use Rattle.qz_react.specs.declared.environments.Write.{Write}
 use Rattle.qz_interp.specs.declared.rounds.Sheet.{Sheet}
 use Rattle.qz_interp.specs.declared.slots.Entry.{Entry}
-use Rattle.qz_interp.specs.declared.slots.Entry.TheVariants.{Unmet}
 use Rattle.qz_interp.specs.declared.slots.Slot.{Slot}
 use Rattle.qz_interp.specs.Entering.{no_slot}
 use Rattle.qz_interp.specs.Slots.{value_in, later_in, value_at, later_at, values_from, laters_from}
 use Rattle.qz_interp.specs.RoundTables.{verdicts_on}
 use Rattle.qz_interp.specs.Walked.{numbered, Settles}
-use Rattle.qz_interp.specs.Tallying.{Numbered, with_one, is_same_kind, with_write, tallied, cleared}
+use Rattle.qz_interp.specs.Tallying.{Numbered, is_same_kind, with_write, tallied, cleared}
 use Rattle.qz_interp.specs.Touching.{is_among, assigned, OnlyThere, value_by, later_by, Suits, IsClear}
 use Rattle.qz_interp.proofs.TouchLemmas.{only_assigned, assigned_is, get_or_replicate, length-replicate}
 

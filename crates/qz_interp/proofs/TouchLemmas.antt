@@ -1,11 +1,9 @@
 -- Lists of which only the places of what is met are touched.
-use Rattle.std.proofs.Common.{◌≡◌, ◌≢◌, ◌<◌, ◌+◌, ℕ, zero, suc, Bool, true, false, List, [], ◌∷◌, map, length, Option, Some, None, get_or, set, replicate, refl, sym, ap, ap₂, subst, ◌∙◌, get_or-set_other, get_or-set_same, arith}
+use Rattle.std.proofs.Common.{◌≡◌, ◌≢◌, ◌<◌, ℕ, zero, suc, Bool, true, false, List, [], ◌∷◌, length, get_or, set, replicate, refl, sym, ap, subst, ◌∙◌, get_or-set_other, get_or-set_same}
 use Rattle.std.specs.Prelude.{◌==◌, if◌then◌else◌}
-use Rattle.std.specs.Option.{option_or, is_some}
 use Rattle.std.proofs.lemmas.Bool.{false≢true, eqb-true}
-use Rattle.std.proofs.lemmas.List.{length-set, ext_get_or, get_or_past}
+use Rattle.std.proofs.lemmas.List.{length-set, ext_get_or}
 use Rattle.qz_meaning.proofs.Orderly.{same_number}
-use Rattle.qz_meaning.proofs.Lists.{none≢some}
 use Rattle.qz_react.specs.declared.environments.Met.{Met}
 use Rattle.qz_interp.specs.Touching.{is_among, assigned, OnlyThere}
 

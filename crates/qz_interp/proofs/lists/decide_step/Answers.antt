@@ -1,10 +1,7 @@
-use Rattle.std.proofs.Common.{◌≡◌, List, length, refl, sym, ap, ap₂, subst, subst₂, ◌∙◌}
-use Rattle.qz_react.specs.declared.environments.Met.{Met}
+use Rattle.std.proofs.Common.{List, sym, subst, ◌∙◌}
 use Rattle.qz_meaning.specs.Configurations.{Configuration}
 use Rattle.qz_interp.specs.declared.slots.Slot.{Slot}
 use Rattle.qz_interp.specs.Beginning.{BeginsRounds}
-use Rattle.qz_interp.specs.Touching.{Suits, IsClear}
-use Rattle.qz_interp.proofs.RestLemmas.{still_touched}
 use Rattle.qz_interp.proofs.lists.decide_step.Goals as goal
 
 pub returns-clause-decided : goal.returns-clause-decided

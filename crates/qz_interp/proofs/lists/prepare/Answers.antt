@@ -1,8 +1,5 @@
-use Rattle.std.proofs.Common.{◌≡◌, ◌*◌, List, length, replicate, refl, sym, ap, ap₂, subst, ◌∙◌}
-use Rattle.qz_values.specs.declared.Know.TheVariants as know
-use Rattle.qz_syntax.specs.declared.places.Later.TheVariants as later
+use Rattle.std.proofs.Common.{◌≡◌, ◌*◌, List, length, refl, sym, ap, ap₂, subst, ◌∙◌}
 use Rattle.qz_react.specs.declared.environments.Met.{Met}
-use Rattle.qz_interp.specs.declared.lists.Lists.{Lists}
 use Rattle.qz_interp.specs.declared.slots.Slot.{Slot}
 use Rattle.qz_interp.specs.Entering.{no_slot, entered}
 use Rattle.qz_interp.specs.Touching.{OnlyThere}

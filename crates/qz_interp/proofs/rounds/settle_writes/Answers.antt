@@ -1,8 +1,6 @@
 use Rattle.std.proofs.Common.{false, true, List, map, length, ap, ap₂, ◌∙◌}
 use Rattle.qz_meaning.specs.Verdicts.{Verdict}
-use Rattle.qz_react.specs.declared.environments.Env.{Env}
 use Rattle.qz_react.specs.declared.environments.Write.{Write}
-use Rattle.qz_interp.specs.declared.rounds.Sheet.{Sheet}
 use Rattle.qz_interp.specs.Tallying.{tallied, cleared}
 use Rattle.qz_interp.specs.Touching.{assigned, value_by, later_by}
 use Rattle.qz_interp.specs.Walked.{numbered}
