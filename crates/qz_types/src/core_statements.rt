@@ -6,7 +6,7 @@ ghost use Rattle.qz_syntax.specs.declared.file_statements.FileStmt.TheVariants.{
 ghost use Rattle.qz_types.specs.Scopes.{meanings_of};
 ghost use Rattle.qz_types.specs.ArgumentFaults.{formals_of};
 ghost use Rattle.qz_syntax.specs.declared.file_expressions.FileExpr.{out-FileExpr};
-ghost use Rattle.qz_types.specs.Makers.{in_sequence, in_parallel, with_call, repeating, aborting, suspending, always};
+ghost use Rattle.qz_types.specs.Makers.{in_sequence, in_parallel, with_call, repeating, aborting, suspending, always, hold_place, with_hold_place};
 ghost use Rattle.qz_types.specs.CoreStatements.{made, holds, whiling, restarting, on_every, calling, core_argument, core_arguments, output_variable};
 
 use crate::core_declarations::declare;
@@ -239,10 +239,39 @@ fn suspending(
     ensures next { OnOk result (numbers.new ≡ (suspending kind (made callees.now.protos.now (meanings_of callees.now.numbers) body.now) (holds cond.now)
         (meanings_of names.old) numbers.old).next) }
 {
-    let hold = numbers.hold_place(kind)?;
-    let inner = statement(alloc, callees, names, numbers, body)?;
+    let held = held_body(alloc, callees, names, numbers, body, kind)?;
     let condition = holds(alloc, names, cond)?;
-    suspended(alloc, kind, hold, inner, condition)
+    suspended(alloc, kind, held.place, held.body, condition)
+}
+
+/// The statement that a suspend holds, after its hold place.
+#[derive(Drop)]
+struct HeldBody {
+    /// The hold place, where there is one.
+    place: Option<u32>,
+    body: Stmt,
+}
+
+/// Numbers the hold place of a suspend, and makes its body after it.
+#[cycle(make)]
+fn held_body(
+    alloc: Global,
+    callees: &Callees<'_>,
+    names: &mut Scope<Var>,
+    numbers: &mut Numbers,
+    body: &FileStmt,
+    kind: Kind,
+) -> Result<HeldBody, AllocError>
+    ensures names { OnOk result (meanings_of names.new ≡ meanings_of names.old) }
+    ensures place { IfOk result (λ held. held.place ≡ hold_place kind numbers.old) }
+    ensures tree { IfOk result (λ held. held.body ≡ (made callees.now.protos.now (meanings_of callees.now.numbers) body.now
+        (meanings_of names.old) (with_hold_place kind numbers.old)).tree) }
+    ensures next { OnOk result (numbers.new ≡ (made callees.now.protos.now (meanings_of callees.now.numbers) body.now
+        (meanings_of names.old) (with_hold_place kind numbers.old)).next) }
+{
+    let place = numbers.hold_place(kind)?;
+    let inner = statement(alloc, callees, names, numbers, body)?;
+    Ok(HeldBody { place, body: inner })
 }
 
 /// Makes a block.

@@ -133,3 +133,15 @@ statement-returns-in-Suspend-clause-next t c =
     let protos = c.args.callees.now.protos.now in
     let callees = meanings_of c.args.callees.now.numbers in
     rw (c.in-Suspend.is, made-Suspend protos callees c.in-Suspend.kind c.in-Suspend.body c.in-Suspend.cond, ← c.get-in-Suspend.ensures) c.suspending.ensures.next
+
+pub held_body-returns-clause-names : goal.held_body-returns-clause-names
+held_body-returns-clause-names t c = c.in_ok-inner.ensures.names
+
+pub held_body-returns-clause-place : goal.held_body-returns-clause-place
+held_body-returns-clause-place t c = c.in_ok-place.ensures.number
+
+pub held_body-returns-clause-tree : goal.held_body-returns-clause-tree
+held_body-returns-clause-tree t c = rw c.in_ok-place.ensures.next at c.in_ok-inner.ensures.tree
+
+pub held_body-returns-clause-next : goal.held_body-returns-clause-next
+held_body-returns-clause-next t c = rw c.in_ok-place.ensures.next at c.in_ok-inner.ensures.next
