@@ -37,6 +37,12 @@ drop_next [] (suc at) s more e = absurd (cc (e))
 drop_next (w ∷ ws) zero s more e = cc (e)
 drop_next (w ∷ ws) (suc at) s more e = drop_next ws at s more e
 
+within : (ws : List Spot) (at : ℕ) (s : Spot) (more : List Spot) → drop at ws ≡ s ∷ more → at < length ws
+within [] zero s more e = absurd (cc (e))
+within [] (suc at) s more e = absurd (cc (e))
+within (w ∷ ws) zero s more e = omega arith
+within (w ∷ ws) (suc at) s more e = let less = within ws at s more e in omega (arith, less)
+
 all_coming : (s : Cursor) → s.read ≡ 0 → upcoming s ≡ s.words.now
 all_coming s zero_is = ap (λ n. drop n s.words.now) zero_is
 
@@ -73,6 +79,7 @@ text_parse s0 s1 zero_is k = record {
 
 pub text_deep : (s0 s1 : Cursor) → s0.read ≡ 0 → Fails a_file most s0 s1 Deep → IsDeep s0.words.now s1.read
 text_deep s0 s1 zero_is k = record {
+  there = let d = k.deeper refl in within s0.words.now s1.read d.0 d.1 (ap (λ ws. drop s1.read ws) (sym k.moves.words) ∙ d.2);
   none = λ others same levels low f h. k.none others (same_others s0 s1 others k.moves.words same) levels low f [] (from_start s0 others levels f zero_is h);
   begins = begun s0 s1 zero_is k.moves.words k.front k.read k.begins;
   deeper =
@@ -99,3 +106,8 @@ text_goes_on s0 s1 f zero_is low k = record {
       first_some s1.words.now s1.read low (sym (agrees_here s1 others agrees) ∙ ap first (sym o.1));
   begins = record { front = k.it.front; before = fronted s0 s1 zero_is k.it.moves.words k.it.front k.it.read; more = []; file = f; is = k.it.stands most (omega arith) [] (inl refl) };
 }
+
+-- the words spell no other file
+pub text_only : (s0 s1 : Cursor) (f : File) → s0.read ≡ 0 → ReadsSome a_file most s0 s1 f → (levels : ℕ) (g : File) → IsFile levels s0.words.now g → g ≡ f
+text_only s0 s1 f zero_is k levels g h =
+    (k.it.only s0.words.now (same_others s0 s1 s0.words.now k.it.moves.words refl) levels g [] (from_start s0 s0.words.now levels g zero_is h)).0

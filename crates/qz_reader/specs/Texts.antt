@@ -1,5 +1,5 @@
 -- What words say as a whole: a file, or the first word with which none begins.
-use Rattle.std.specs.Prelude.{ℕ, ◌≡◌, ◌≤◌, ◌+◌, List, [], ◌++◌, take, drop}
+use Rattle.std.specs.Prelude.{ℕ, ◌≡◌, ◌<◌, ◌≤◌, ◌+◌, List, [], ◌++◌, length, take, drop}
 use Rattle.qz_syntax.specs.declared.files.File.{File}
 use Rattle.qz_phrases.specs.declared.words.Spot.{Spot}
 use Rattle.qz_reader.specs.declared.texts.WordsFault.{WordsFault}
@@ -27,8 +27,10 @@ pub record IsParse (words : List Spot) (at : ℕ) : Type 0 where
   pub none : (others : List Spot) → take (at + 1) others ≡ take (at + 1) words → (levels : ℕ) (f : File) → IsFile levels others f → ⊥
   pub begins : BeginsFile most words at
 
--- only a file of too many levels begins so, but one that is within them begins with those before
+-- a word stands at this place, only a file of too many levels begins so, but one that is within them begins with
+-- the words before
 pub record IsDeep (words : List Spot) (at : ℕ) : Type 0 where
+  pub there : at < length words
   pub none : (others : List Spot) → take (at + 1) others ≡ take (at + 1) words → (levels : ℕ) → levels ≤ most → (f : File) → IsFile levels others f → ⊥
   pub begins : BeginsFile most words at
   pub deeper : (levels : ℕ) × BeginsFile levels words (at + 1)

@@ -1,6 +1,7 @@
 //! Reads all words of a text.
 
-ghost use Rattle.std.specs.Prelude.{IfOk, IfErr};
+ghost use Rattle.std.specs.Prelude.{◌≡◌, ℕ, IfOk, IfErr};
+ghost use Rattle.qz_syntax.specs.declared.files.File.{File};
 ghost use Rattle.qz_reader.specs.Texts.{IsFile, most, Refuses};
 
 use crate::files::file;
@@ -26,6 +27,8 @@ pub enum WordsFault {
 /// more than what holds it. Otherwise the first word is told with which no such file begins.
 pub fn read_words(alloc: Global, words: &[Spot]) -> Result<File, WordsFault>
     ensures found { IfOk result (λ f. IsFile most words.now f) }
+    // No other file is spelled so, of however many levels.
+    ensures only { IfOk result (λ f. (levels : ℕ) (other : File) → IsFile levels words.now other → other ≡ f) }
     ensures refused { IfErr result (Refuses words.now) }
 {
     let mut cursor = Cursor { words, read: 0 };
