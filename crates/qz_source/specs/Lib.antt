@@ -1,0 +1,4 @@
+pub mod Marks
+pub mod Spots
+pub mod Sources
+pub mod OneAnswer
