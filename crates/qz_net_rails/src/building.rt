@@ -8,8 +8,8 @@ ghost use Rattle.qz_net_rails.specs.NetRails.{AreLeafRails, IsNetRail, AreNetRai
 
 use qz_dd::Diagrams;
 use qz_nets::{Net, NetId, NetTable};
-use qz_values::Ty;
 use qz_rails::{Rail, apply1, apply2, bit, choose, concat, constant, slice};
+use qz_values::Ty;
 use std::alloc::{AllocError, Global};
 
 /// The rail of each net of the table, by the nets' numbers, from the rails of its leaves, by the
@@ -97,9 +97,7 @@ fn net_rail(
         Net::Concat(a, b) => {
             let upper = operand_of(nets, rails, a);
             let lower = operand_of(nets, rails, b);
-            let r = concat(
-                diagrams, alloc, upper.ty, lower.ty, upper.rail, lower.rail,
-            )?;
+            let r = concat(diagrams, alloc, upper.ty, lower.ty, upper.rail, lower.rail)?;
             Ok(r)
         }
     }
