@@ -1,0 +1,3 @@
+pub mod FormalLemmas
+pub mod RunLemmas
+pub mod GoingLemmas
