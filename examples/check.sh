@@ -1,6 +1,7 @@
 #!/usr/bin/env bash
-# Runs the built program over real files and compares its answers: the examples of this folder, built
-# and run for 20 steps, and a call for each status that real files can bring about.
+# Runs the built program over real files and compares its answers: the controllers of this folder, run step by
+# step; the programs of the first language, built and run for 20 clocks; and a call for each status that real
+# files can bring about.
 set -u
 here=$(cd "$(dirname "${BASH_SOURCE[0]}")" && pwd)
 program=$here/../crates/quartzc/out/quartzc
@@ -24,12 +25,47 @@ expect() {
     fi
 }
 
+# holds WHAT COMMAND..: the command ends well, or WHAT is told
+holds() {
+    local what=$1
+    shift
+    if "$@"; then passed=$((passed + 1)); else failed=$((failed + 1)); echo "failed: $what"; fi
+}
+
 # same FILE OTHER: the files are equal
-same() {
-    if cmp -s "$1" "$2"; then passed=$((passed + 1)); else failed=$((failed + 1)); echo "failed: $1 differs"; fi
+same() { holds "$1 differs" cmp -s "$1" "$2"; }
+
+# absent FILE: no such file was put
+absent() { holds "$1 was put" [ ! -e "$1" ]; }
+
+# runs FOLDER: each program with inputs takes a step a row; it gives NAME.out, or it is refused by NAME.line
+runs() {
+    local source name
+    mkdir steps
+    for source in "$1"/*.qz; do
+        name=$(basename "$source" .qz)
+        [ -e "$1/$name.in" ] || continue
+        cp "$source" "$1/$name.in" steps
+        cd steps || exit 2
+        if [ -e "$1/$name.line" ]; then
+            expect 1 "$(cat "$1/$name.line")" run "$name" "$name.qz"
+            absent "$name.out"
+        else
+            expect 0 '' run "$name" "$name.qz"
+            same "$name.out" "$1/$name.out"
+        fi
+        cd .. || exit 2
+    done
+    rm -r steps
 }
 
 usage='usage: quartzc MODE NAME FILE...'
+# A program in which run isn't built yet takes it for no mode.
+if [ "$("$program" run No no.qz)" = "$usage" ]; then
+    echo "not run: this program has no run yet"
+else
+    runs "$here"
+fi
 cp "$here"/*.qz .
 for name in T Blink Phases; do
     expect 0 '' build "$name" "$name.qz"

@@ -1,7 +1,7 @@
 #!/usr/bin/env bash
-# Builds each example, runs its Verilog text in Icarus Verilog (`iverilog` and `vvp`, which have to be
-# installed), and compares its outputs before each of 20 rising clocks with NAME.steps: a line a step, the
-# outputs in order.
+# Builds each example that has a Verilog text, runs that text in Icarus Verilog (`iverilog` and `vvp`, which
+# have to be installed), and compares its outputs before each of 20 rising clocks with NAME.steps: a line a
+# step, the outputs in order.
 set -eu
 here=$(cd "$(dirname "${BASH_SOURCE[0]}")" && pwd)
 program=$here/../crates/quartzc/out/quartzc
@@ -34,9 +34,9 @@ TEXT
 }
 
 failed=0
-for source in "$here"/*.qz; do
-    name=$(basename "$source" .qz)
-    cp "$source" .
+for text in "$here"/*.v; do
+    name=$(basename "$text" .v)
+    cp "$here/$name.qz" .
     "$program" build "$name" "$name.qz"
     bench "$name" >"bench_$name.v"
     iverilog -g2005 -Wall -o "$name.vvp" "bench_$name.v" "$name.v"
