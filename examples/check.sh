@@ -1,7 +1,8 @@
 #!/usr/bin/env bash
-# Runs the built program over real files and compares its answers: the controllers of this folder, run step by
-# step; the programs of the first language, built and run for 20 clocks; and a call for each status that real
-# files can bring about.
+# Runs the built program over real files and compares its answers: the controllers of this folder and the
+# programs of the tutorial, run step by step; the programs of the first language, built and run for 20 clocks;
+# and a call for each status that real files can bring about. It also sees that the tutorial shows its
+# programs and their traces as they are in the files.
 set -u
 here=$(cd "$(dirname "${BASH_SOURCE[0]}")" && pwd)
 program=$here/../crates/quartzc/out/quartzc
@@ -59,12 +60,34 @@ runs() {
     rm -r steps
 }
 
+# trace NAME: the rows of inputs and outputs as the tutorial shows them
+trace() { paste -d '|' "$1.in" "$1.out" | sed 's/|/ | /; s/^ //'; }
+
+# shows TEXT PART: the text has this part
+shows() { [[ $1 == *"$2"* ]]; }
+
+# shown FOLDER TEXT: the text has each program of the folder, with its trace or the line that refuses it
+shown() {
+    local source name
+    for source in "$1"/*.qz; do
+        name=${source%.qz}
+        holds "$source isn't shown" shows "$2" "$(cat "$source")"
+        if [ -e "$name.line" ]; then
+            holds "$name.line isn't shown" shows "$2" "$(cat "$name.line")"
+        else
+            holds "the trace of $name isn't shown" shows "$2" "$(trace "$name")"
+        fi
+    done
+}
+
 usage='usage: quartzc MODE NAME FILE...'
+shown "$here/tutorial" "$(cat "$here/../docs/LANGUAGE.md")"
 # A program in which run isn't built yet takes it for no mode.
 if [ "$("$program" run No no.qz)" = "$usage" ]; then
     echo "not run: this program has no run yet"
 else
     runs "$here"
+    runs "$here/tutorial"
 fi
 cp "$here"/*.qz .
 for name in T Blink Phases; do
