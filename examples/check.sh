@@ -60,6 +60,39 @@ runs() {
     rm -r steps
 }
 
+# refused TEXT LINE: a source with this text is refused so
+refused() {
+    printf "$1" >t.qz
+    expect 1 "t.qz: $2" run T t.qz
+}
+
+# What run says against a source and its inputs, and the statuses of files that can't be read or put.
+refuses_runs() {
+    mkdir refused
+    cd refused || exit 2
+    printf 'module V(mem bv[8] ?n, !m){ loop { m = n; pause; } }' >V.qz
+    expect 1 'no.qz: absent' run V no.qz
+    expect 1 'module U is missing' run U V.qz
+    expect 1 'V.in: absent' run V V.qz
+    printf '255\n256\n' >V.in
+    expect 1 'V.in: line 2 out of range' run V V.qz
+    printf '1\n2' >V.in
+    expect 1 'V.in: line 2 unended' run V V.qz
+    absent V.out
+    : >V.in
+    expect 0 '' run V V.qz
+    same V.out V.in
+    refused 'm\xff' 'not UTF-8 at byte 1'
+    refused 'module T(event !o){ emit o; # }' 'no token at byte 28'
+    refused 'module T(event !o){ emit; }' 'syntax at byte 24'
+    refused 'module T(event ?i, !o){ emit i; }' 'write to an input at byte 29'
+    refused 'module B(); module T(){ pause; B(); }' 'not built yet'
+    expect 3 '' run V .
+    rm V.out && mkdir V.out
+    expect 4 '' run V V.qz
+    cd .. || exit 2
+}
+
 # trace NAME: the rows of inputs and outputs as the tutorial shows them
 trace() { paste -d '|' "$1.in" "$1.out" | sed 's/|/ | /; s/^ //'; }
 
@@ -88,6 +121,7 @@ if [ "$("$program" run No no.qz)" = "$usage" ]; then
 else
     runs "$here"
     runs "$here/tutorial"
+    refuses_runs
 fi
 cp "$here"/*.qz .
 for name in T Blink Phases; do
