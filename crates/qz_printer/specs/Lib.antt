@@ -1,0 +1,6 @@
+pub mod Texts
+pub mod Expressions
+pub mod Declarations
+pub mod Statements
+pub mod Files
+pub mod Writing
