@@ -3,6 +3,7 @@
 //! a crate with tests is proved once more for them.
 #![tactic(auto)]
 
+pub mod calls;
 #[cfg(test)]
 mod programs;
 #[cfg(test)]

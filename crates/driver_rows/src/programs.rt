@@ -3,7 +3,7 @@
 
 ghost use Rattle.std.specs.Prelude.{◌≡◌, ◌≤◌, ◌<◌};
 
-use crate::tests::{held, repeated, texts};
+use crate::calls::{held, repeated, texts};
 use qz_driver::quartzc;
 use qz_io::{MemFiles, MemSink};
 use std::alloc::{AllocError, Global};

@@ -1,6 +1,6 @@
 //! The answers of `sim` over files and a sink in memory, row by row.
 
-use crate::tests::{held, texts};
+use crate::calls::{held, hold, texts};
 use qz_driver::{Status, quartzc};
 use qz_io::{MemFiles, MemSink};
 use std::alloc::{AllocError, Global};
@@ -172,20 +172,6 @@ fn rows() -> [Row; 19] {
         fails(1, Status::ReadFault),
         fails(2, Status::WriteFault),
     ]
-}
-
-/// Holds the text under the name, if there is one.
-fn hold(
-    alloc: Global,
-    files: &mut MemFiles,
-    name: &str,
-    text: Option<&str>,
-) -> Result<(), AllocError> {
-    if let Some(text) = text {
-        let bytes = Vec::from_slice(alloc, text.as_bytes())?;
-        files.held.push((String::from_str(alloc, name)?, bytes))?;
-    }
-    Ok(())
 }
 
 /// Makes the call of a row, and asserts its answer.

@@ -2,6 +2,7 @@
 
 ghost use Rattle.std.specs.Prelude.{◌≤◌, ◌<◌};
 
+use crate::calls::{held, hold, repeated, texts};
 use qz_driver::{Status, quartzc};
 use qz_io::{MemFiles, MemSink};
 use std::alloc::{AllocError, Global};
@@ -95,32 +96,11 @@ fn always(file_fails: Option<u64>, status: Status, put: Option<&'static str>) ->
     }
 }
 
-pub fn texts(alloc: Global, words: &[&str]) -> Result<Vec<String>, AllocError> {
-    let mut texts = Vec::new(alloc);
-    for word in words {
-        texts.push(String::from_str(alloc, word)?)?;
-    }
-    Ok(texts)
-}
-
-/// The bytes that are held under a name.
-pub fn held<'f>(files: &'f MemFiles, name: &str) -> Option<&'f [u8]> {
-    for (other, bytes) in files.held.as_slice() {
-        if other.as_str() == name {
-            return Some(bytes.as_slice());
-        }
-    }
-    None
-}
-
 /// Makes the call of a row, and asserts its answer.
 fn assert_row(rt: &impl Abort, alloc: Global, row: &Row) -> Result<(), AllocError> {
     let mut files = MemFiles::new(alloc);
     let mut sink = MemSink::new(alloc);
-    if let Some(text) = row.text {
-        let bytes = Vec::from_slice(alloc, text.as_bytes())?;
-        files.held.push((String::from_str(alloc, "t.qz")?, bytes))?;
-    }
+    hold(alloc, &mut files, "t.qz", row.text)?;
     if let Some(call) = row.file_fails {
         files.fail.push(call)?;
     }
@@ -215,15 +195,6 @@ fn status_of(alloc: Global, bytes: &[u8]) -> Result<Status, AllocError> {
     ))?;
     let words = texts(alloc, &["build", "D", "t.qz"])?;
     Ok(quartzc(alloc, words.as_slice(), &mut files, &mut sink))
-}
-
-/// The text, and then the part so many times.
-pub fn repeated(alloc: Global, text: &str, part: &str, times: u32) -> Result<String, AllocError> {
-    let mut whole = String::from_str(alloc, text)?;
-    for _ in 0..times {
-        whole.push_str(part)?;
-    }
-    Ok(whole)
 }
 
 /// A module with so many blocks in its block, each in the one before it.

@@ -2,5 +2,7 @@
 #![tactic(auto)]
 
 mod refusal;
+mod words;
 
 pub use refusal::Refusal;
+pub use words::ByteFault;

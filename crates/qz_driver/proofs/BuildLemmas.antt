@@ -2,7 +2,7 @@
 use Rattle.std.proofs.Common.{◌≡◌, ℕ, zero, suc, List, [], ◌∷◌, take, Option, Result, Ok, Err, IfOk, sym, subst, string_bytes}
 use Rattle.std.specs.Prelude.{IfErr}
 use Rattle.qz_io.specs.Held.{Held}
-use Rattle.qz_diag.specs.Causes.{Cause, Usage, Absent, TooLong, NotBuilt, WrongName, BadVerilog, InstantLoop, BadTrace}
+use Rattle.qz_diag.specs.Causes.{Cause, NotBuilt, InstantLoop}
 use Rattle.qz_first.specs.Limits.{largest_source}
 use Rattle.qz_first.specs.Built.{IsBuilt}
 use Rattle.qz_first.proofs.BuiltLemmas.{not_built_or_built, instant_or_built}
@@ -23,14 +23,9 @@ module _ (name file : List ℕ) where
   nothing_before cause stands = stands
 
   built_stands_not : (bytes : List ℕ) (cause : Cause) → IsBuilt name bytes → IsOfBytes name file bytes cause → ⊥
-  built_stands_not bytes Usage built stands = stands
-  built_stands_not bytes (Absent other) built stands = stands
-  built_stands_not bytes (TooLong other) built stands = stands
   built_stands_not bytes (NotBuilt other) built stands = not_built_or_built name bytes stands.1 built
-  built_stands_not bytes (WrongName other who) built stands = stands
-  built_stands_not bytes (BadVerilog other line) built stands = stands
   built_stands_not bytes (InstantLoop number who) built stands = instant_or_built name bytes number who stands built
-  built_stands_not bytes (BadTrace other line kind) built stands = stands
+  built_stands_not bytes cause built stands = stands
 
   none_against : (bytes : List ℕ) (count : ℕ) (cause : Cause) → IsBuilt name bytes → build_against name file (take count (Bytes bytes ∷ [])) cause → ⊥
   none_against bytes zero cause built stands = stands

@@ -1,34 +1,30 @@
 -- What a `sim` comes to, from what was found under the names of its files.
 use Rattle.std.proofs.Common.{◌≡◌, ℕ, List, [], ◌∷◌, length, Result, Ok, Err, IfOk, Vec, refl, sym, ap, subst, ◌∙◌, string_bytes}
-use Rattle.std.specs.Prelude.{encode_utf8_all, IfErr}
+use Rattle.std.specs.Prelude.{encode_utf8_all, IfErr, MatchResult}
 use Rattle.std.specs.declared.alloc.Global.{Global}
 use Rattle.std.specs.declared.alloc.AllocError.{AllocError}
 use Rattle.std.proofs.lemmas.List.{length-map}
 use Rattle.qz_syntax.specs.declared.declarations.Port.{Port}
 use Rattle.std.specs.List.{AllByRecursion}
 use Rattle.qz_values.specs.declared.Ty.{Ty}
-use Rattle.qz_values.specs.Types.{IsType}
 use Rattle.qz_verilog.specs.declared.modules.VModule.{VModule}
 use Rattle.qz_verilog.specs.Validity.{port_types}
 use Rattle.qz_vread.specs.Answers.{IsRead}
 use Rattle.qz_trace.specs.declared.traces.Trace.{Trace}
 use Rattle.qz_trace.specs.Rows.{rows_in, trace_text}
-use Rattle.qz_trace.specs.Faults.{Fault}
-use Rattle.qz_trace.proofs.Agree.{agree}
-use Rattle.qz_diag.specs.Causes.{Cause, Usage, Absent, TooLong, NotBuilt, WrongName, BadVerilog, InstantLoop, BadTrace}
+use Rattle.qz_diag.specs.Causes.{Cause, WrongName, BadVerilog}
 use Rattle.qz_driver.specs.declared.work.Output.{Output}
 use Rattle.qz_driver.specs.declared.work.Stop.{Stop}
 use Rattle.qz_driver.specs.declared.work.Stop.TheVariants as stop
 use Rattle.qz_driver.specs.Rows.{Content, Bytes, Read}
 use Rattle.qz_driver.specs.Answers.{FilesSeen}
-use Rattle.qz_driver.specs.SimRow.{largest_verilog, largest_trace, inputs_name, outputs_name, IsOfVerilog, IsOfFile, IsCircuit, IsOfTrace, IsOfInputs, AreInputs, IsOfCircuitInputs, IsOutputs, sim_against, SimMakes, sim_row}
+use Rattle.qz_driver.specs.SimRow.{largest_verilog, largest_trace, inputs_name, outputs_name, IsOfVerilog, IsOfFile, IsCircuit, IsOfInputs, AreInputs, IsOfCircuitInputs, IsOutputs, sim_against, SimMakes, sim_row}
 use Rattle.qz_driver.specs.Work.{IsFound, IsUngot, StopsOver, Stops, IsWork}
+use Rattle.qz_driver.specs.Running.{AreFound}
 use Rattle.qz_driver.specs.Simulating.{AreInputsOf, AreOutputs, SimStops, IsSimulated}
 use Rattle.qz_driver.proofs.ClockLemmas.{outputs_as_values, all_back, all_wide}
+use Rattle.qz_driver.proofs.InputLemmas.{same_bytes, inputs_clear}
 use Rattle.qz_driver.proofs.RowLemmas.{first_ungot, first_stops, second_ungot, second_stops, both_made}
-
-same_bytes : (a b : List ℕ) → Bytes a ≡ Bytes b → a ≡ b
-same_bytes a b same = cc (same)
 
 -- the module that a text is
 same_circuit : (name : List ℕ) (content : Content) (m other : VModule) → IsCircuit name content m → IsCircuit name content other → other ≡ m
@@ -48,49 +44,22 @@ module _ (name file : List ℕ) where
 
   -- nothing stands against the text of the module
   verilog_clear : (bytes : List ℕ) (m : VModule) → IsRead bytes m → encode_utf8_all m.name ≡ name → (cause : Cause) → IsOfVerilog name file bytes cause → ⊥
-  verilog_clear bytes m read named Usage stands = stands
-  verilog_clear bytes m read named (Absent other) stands = stands
-  verilog_clear bytes m read named (TooLong other) stands = stands
-  verilog_clear bytes m read named (NotBuilt other) stands = stands
   verilog_clear bytes m read named (WrongName other who) stands =
       let wrong = stands.1 in
       let same : wrong.circuit ≡ m = read.only wrong.circuit wrong.read.is (sym wrong.read.text.written) in
       wrong.apart (wrong.named ∙ (ap (λ (c : VModule). encode_utf8_all c.name) same ∙ named))
   verilog_clear bytes m read named (BadVerilog other line) stands = stands.1.no_text m read.is (sym read.text.written)
-  verilog_clear bytes m read named (InstantLoop number who) stands = stands
-  verilog_clear bytes m read named (BadTrace other line kind) stands = stands
+  verilog_clear bytes m read named cause stands = stands
 
   file_clear : (content : Content) (m : VModule) → IsCircuit name content m → (cause : Cause) → IsOfFile name file content cause → ⊥
   file_clear content m is cause stands =
       verilog_clear is.bytes m is.read is.named cause (subst (λ (c : Content). IsOfFile name file c cause) is.there stands)
 
-  -- nothing stands against the text of rows
-  trace_clear : (types : List Ty) (bytes : List ℕ) (rows : List (List ℕ)) → AllByRecursion IsType types → AreInputs types (Bytes bytes) rows
-      → (cause : Cause) → IsOfTrace (inputs_name name) types bytes cause → ⊥
-  trace_clear types bytes rows are read Usage stands = stands
-  trace_clear types bytes rows are read (Absent other) stands = stands
-  trace_clear types bytes rows are read (TooLong other) stands = stands
-  trace_clear types bytes rows are read (NotBuilt other) stands = stands
-  trace_clear types bytes rows are read (WrongName other who) stands = stands
-  trace_clear types bytes rows are read (BadVerilog other line) stands = stands
-  trace_clear types bytes rows are read (InstantLoop number who) stands = stands
-  trace_clear types bytes rows are read (BadTrace other line kind) stands =
-      let same = same_bytes bytes read.bytes read.there in
-      let fault : Fault = record { line = line; kind = kind } in
-      let e : Err fault ≡ Ok rows = agree types read.bytes (Err fault) (Ok rows) are (subst (λ (b : List ℕ). IsOfTrace (inputs_name name) types b (BadTrace other line kind)) same stands).1 read.read in
-      cc (e)
-
-  inputs_clear : (types : List Ty) (content : Content) (rows : List (List ℕ)) → AllByRecursion IsType types → AreInputs types content rows
-      → (cause : Cause) → IsOfInputs (inputs_name name) types content cause → ⊥
-  inputs_clear types content rows are read cause stands =
-      trace_clear types read.bytes rows are (subst (λ (c : Content). AreInputs types c rows) read.there read) cause
-      (subst (λ (c : Content). IsOfInputs (inputs_name name) types c cause) read.there stands)
-
   both_clear : (text inputs : Content) (m : VModule) (rows : List (List ℕ)) → IsCircuit name text m → AreInputs (port_types m.inputs) inputs rows
       → (cause : Cause) → IsOfCircuitInputs name text inputs cause → ⊥
   both_clear text inputs m rows is read cause stands =
       let same : stands.circuit ≡ m = same_circuit name text m stands.circuit is stands.is in
-      inputs_clear (port_types m.inputs) inputs rows is.read.is.valid.inputs read cause
+      inputs_clear (inputs_name name) (port_types m.inputs) inputs rows is.read.is.valid.inputs read cause
       (subst (λ (c : VModule). IsOfInputs (inputs_name name) (port_types c.inputs) inputs cause) same stands.stands)
 
   pub text_ungot : (old new : FilesSeen) (stopped : Stop) → IsUngot file old new stopped → Stops (sim_row name file) old new stopped
@@ -117,6 +86,23 @@ module _ (name file : List ℕ) where
       second_ungot verilog trace (sim_against name file) (outputs_name name) (SimMakes name) nothing_before content (file_clear content m is)
       old new stop.Unread found did
   simulated old new content m (Err stop.Memory) found is did = did
+
+-- the rows of a circuit's inputs
+pub circuit_rows : (m : VModule) (content : Content) (rows : Trace) → AreFound (port_types m.inputs) content rows → AreInputsOf m content rows
+circuit_rows m content rows found = record {
+  read = found.read;
+  fit = record {
+    width = found.width ∙ length-map m.inputs (λ (port : Port). port.ty);
+    whole = found.whole;
+    each = found.each;
+  };
+}
+
+pub circuit_found : (m : VModule) (content : Content) (input : List ℕ) (types : List Ty) (r : Result Trace Stop) → types ≡ port_types m.inputs
+    → MatchResult r (AreFound types content) (StopsOver (IsOfInputs input types content))
+    → MatchResult r (AreInputsOf m content) (StopsOver (IsOfInputs input (port_types m.inputs) content))
+circuit_found m content input types (Ok rows) same found = circuit_rows m content rows (subst (λ (ts : List Ty). AreFound ts content rows) same found)
+circuit_found m content input types (Err stopped) same stands = subst (λ (ts : List Ty). StopsOver (IsOfInputs input ts content) stopped) same stands
 
 -- the text of a run's outputs
 pub outputs_told : (m : VModule) (rows outs : Trace) (r : Result (Vec ℕ Global) AllocError) → AreOutputs m rows outs

@@ -7,6 +7,7 @@ use Rattle.qz_driver.specs.declared.words.Request.TheVariants as words
 -- a mode with its words, as bytes: the module's name and the file
 pub data Request : Type 0 where
   Build : List ℕ → List ℕ → Request
+  Run : List ℕ → List ℕ → Request
   Simulate : List ℕ → List ℕ → Request
 
 -- whether a word begins with `-`
@@ -18,7 +19,8 @@ is_option (first ∷ rest) = first == 45
 abbrev pub request_by : List ℕ → List ℕ → List ℕ → Option Request
 request_by mode name file =
     if bytes_eq mode (codes "build") then Some (Build name file)
-    else (if bytes_eq mode (codes "sim") then Some (Simulate name file) else None)
+    else (if bytes_eq mode (codes "run") then Some (Run name file)
+    else (if bytes_eq mode (codes "sim") then Some (Simulate name file) else None))
 
 -- three words of which the first is a mode and none begins with `-`; others break a rule
 abbrev pub request_of : List (List ℕ) → Option Request
@@ -38,4 +40,5 @@ requested words = request_of (texts_of words)
 -- what was found to be asked for
 abbrev pub request_in : Words → Request
 request_in (words.Build named) = Build named.name.now named.file.now
+request_in (words.Run named) = Run named.name.now named.file.now
 request_in (words.Simulate named) = Simulate named.name.now named.file.now

@@ -3,8 +3,10 @@ pub mod Commands
 pub mod Rows
 pub mod BuildRow
 pub mod SimRow
+pub mod RunRow
 pub mod Modes
 pub mod Answers
 pub mod Work
 pub mod Outcomes
 pub mod Simulating
+pub mod Running

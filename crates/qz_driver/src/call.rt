@@ -7,12 +7,14 @@ ghost use Rattle.qz_io.specs.Counts.{Rose};
 ghost use Rattle.qz_diag.specs.Causes.{cause_of, line_of};
 ghost use Rattle.qz_driver.specs.Answers.{seen, IsUsage, IsRefused, IsReadFault, IsWriteFault, IsNoMemory, IsDone, IsAnswer, IsComplete};
 ghost use Rattle.qz_driver.specs.BuildRow.{build_row};
+ghost use Rattle.qz_driver.specs.RunRow.{run_row};
 ghost use Rattle.qz_driver.specs.SimRow.{sim_row};
 ghost use Rattle.qz_driver.specs.Outcomes.{Ends};
 ghost use Rattle.qz_driver.specs.Modes.{asked};
 ghost use Rattle.qz_driver.specs.Rows.{Asks};
 
 use crate::build::build;
+use crate::run_program::run;
 use crate::simulate::simulate;
 use crate::status::Status;
 use crate::words::{Named, Request, command};
@@ -22,7 +24,8 @@ use qz_io::{FileFault, Files, Sink};
 use std::alloc::Global;
 
 /// Does what the words ask for. `build NAME FILE` puts `NAME.v`, the Verilog text of the module NAME
-/// in FILE. `sim NAME FILE` reads the Verilog text in FILE, runs its module NAME by one clock for each
+/// in FILE. `run NAME FILE` takes one macro step of the module NAME in FILE for each row of inputs in
+/// `NAME.in`, and puts the rows of outputs, `NAME.out`. `sim NAME FILE` reads the Verilog text in FILE, runs its module NAME by one clock for each
 /// row of inputs in `NAME.in`, and puts the rows of outputs, `NAME.out`.
 pub fn quartzc<F: Files, O: Sink>(
     alloc: Global,
@@ -46,6 +49,7 @@ pub fn quartzc<F: Files, O: Sink>(
 {
     match command(words) {
         Some(Request::Build(asked)) => run_build(alloc, asked, files, out),
+        Some(Request::Run(asked)) => run_steps(alloc, asked, files, out),
         Some(Request::Simulate(asked)) => run_simulation(alloc, asked, files, out),
         None => match say(alloc, &Refusal::Usage, out) {
             Ok(()) => Status::Usage,
@@ -68,6 +72,22 @@ fn run_build<F: Files, O: Sink>(
         (seen F.Files O.Sink files.old out.old) (seen F.Files O.Sink files.new out.new) result }
 {
     let work = build(alloc, asked, files);
+    end(alloc, work, files, out)
+}
+
+/// The mode `run`.
+fn run_steps<F: Files, O: Sink>(
+    alloc: Global,
+    asked: Named<'_>,
+    files: &mut F,
+    out: &mut O,
+) -> Status
+    ensures answers { IsAnswer (Asks (run_row asked.entry.name.now asked.entry.file.now))
+        (seen F.Files O.Sink files.old out.old) (seen F.Files O.Sink files.new out.new) result }
+    ensures complete { IsComplete (Asks (run_row asked.entry.name.now asked.entry.file.now))
+        (seen F.Files O.Sink files.old out.old) (seen F.Files O.Sink files.new out.new) result }
+{
+    let work = run(alloc, asked, files);
     end(alloc, work, files, out)
 }
 

@@ -5,19 +5,20 @@ ghost use Rattle.qz_io.specs.Answers.{IfBytes};
 ghost use Rattle.qz_verilog.specs.Validity.{port_types, IsValid};
 ghost use Rattle.qz_trace.specs.Rows.{rows_in};
 ghost use Rattle.qz_driver.specs.Answers.{files_seen};
-ghost use Rattle.qz_driver.specs.SimRow.{sim_row, IsCircuit, IsOfFile, IsOfVerilog, IsOfInputs, IsOfTrace, IsOutputs};
+ghost use Rattle.qz_driver.specs.SimRow.{sim_row, IsCircuit, IsOfFile, IsOfVerilog, IsOfInputs, IsOutputs};
 ghost use Rattle.qz_driver.specs.Simulating.{IsSimulated, AreInputsOf, AreRows};
 ghost use Rattle.qz_driver.specs.Work.{content_of, IsWork, StopsOver};
 ghost use Rattle.qz_driver.specs.Rows.{Bytes};
 
 use crate::clocks::outputs;
 use crate::files::{content, output_file};
+use crate::inputs::inputs_in;
 use crate::words::Named;
 use crate::work::{Output, Stop};
 use qz_diag::Refusal;
 use qz_io::{Files, Got};
 use qz_syntax::Port;
-use qz_trace::{BadTrace, TRACE_LIMIT, Trace, print_trace, read_trace};
+use qz_trace::{TRACE_LIMIT, Trace, print_trace};
 use qz_values::Ty;
 use qz_verilog::VModule;
 use qz_vread::{BadVerilog, read_v};
@@ -113,34 +114,9 @@ fn inputs_of(alloc: Global, input: String, circuit: &VModule, got: &Got) -> Resu
     ensures { MatchResult result (AreInputsOf circuit.now (content_of got.now))
         (StopsOver (IsOfInputs (string_bytes input) (port_types circuit.now.inputs) (content_of got.now))) }
 {
-    match got {
-        Got::Absent => Err(Stop::Refused(Refusal::Absent { file: input })),
-        Got::TooLong => Err(Stop::Refused(Refusal::TooLong { file: input })),
-        Got::Bytes(bytes) => inputs_of_bytes(alloc, input, circuit, bytes.as_slice()),
-    }
-}
-
-/// The same from the bytes.
-fn inputs_of_bytes(
-    alloc: Global,
-    input: String,
-    circuit: &VModule,
-    bytes: &[u8],
-) -> Result<Trace, Stop>
-    requires valid { IsValid circuit.now }
-    requires within { length bytes.now ≤ 16777216 }
-    ensures { MatchResult result (AreInputsOf circuit.now (Bytes bytes.now))
-        (StopsOver (IsOfTrace (string_bytes input) (port_types circuit.now.inputs) bytes.now)) }
-{
-    let types = types_of(alloc, circuit.inputs.as_slice())?;
-    match read_trace(alloc, bytes, types.as_slice()) {
-        Ok(trace) => Ok(trace),
-        Err(BadTrace::At { line, kind }) => Err(Stop::Refused(Refusal::BadTrace {
-            file: input,
-            line,
-            kind,
-        })),
-        Err(BadTrace::Memory) => Err(Stop::Memory),
+    match types_of(alloc, circuit.inputs.as_slice()) {
+        Ok(types) => inputs_in(alloc, input, types.as_slice(), got),
+        Err(AllocError) => Err(Stop::Memory),
     }
 }
 

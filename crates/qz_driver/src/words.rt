@@ -8,6 +8,8 @@ ghost use Rattle.qz_driver.specs.Commands.{requested, request_by, is_option, req
 pub enum Request<'w> {
     /// To build the module of this name from this source.
     Build(Named<'w>),
+    /// To run the module of this name in this source over the inputs that are held for it.
+    Run(Named<'w>),
     /// To run the circuit of this name in this Verilog text over the inputs that are held for it.
     Simulate(Named<'w>),
 }
@@ -19,8 +21,8 @@ pub struct Named<'w> {
     pub file: &'w str,
 }
 
-/// What the words ask for, or none where they break a rule: they are `build` or `sim`, a name and a
-/// file, and none begins with `-`.
+/// What the words ask for, or none where they break a rule: they are `build`, `run` or `sim`, a name
+/// and a file, and none begins with `-`.
 pub fn command(words: &[String]) -> Option<Request<'_>>
     ensures { MatchOption result (requested words.now ≡ None) (λ request. requested words.now ≡ Some (request_in request)) }
 {
@@ -43,6 +45,8 @@ fn request_for<'w>(mode: &str, named: Named<'w>) -> Option<Request<'w>>
 {
     if mode == "build" {
         Some(Request::Build(named))
+    } else if mode == "run" {
+        Some(Request::Run(named))
     } else if mode == "sim" {
         Some(Request::Simulate(named))
     } else {
