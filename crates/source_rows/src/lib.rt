@@ -3,4 +3,6 @@
 #![tactic(auto)]
 
 #[cfg(test)]
+mod productions;
+#[cfg(test)]
 mod texts;

@@ -6,7 +6,7 @@ use std::process::Abort;
 use std::test::Fail;
 
 /// Texts that are files.
-static FILES: [&[u8]; 12] = [
+static FILES: [&[u8]; 14] = [
     b"module T(){}",
     b"// c\nmodule T(event !o) { emit o; /* c */ }",
     b"module B(bool ?a); module T() { }",
@@ -18,11 +18,13 @@ static FILES: [&[u8]; 12] = [
     b"module T() { do pause; while (true); while (false) pause; every (true) pause; B(a, b); C(); }",
     b"module T() { x = a ? b : c ? d : e -> f -> g | h ^ i & j == k + l @ !m{1}{7:0}; }",
     b"module T() { x = 00000000000000000001'd99999999999999999999; }",
+    b"module T() { bv[99999999999999999999] x; x = a{00000000000000000007}; }",
+    b"module T() { emit next(x); next(x) = y; emit (next(x)); }",
     b"module \xc3\xa9() { \xe6\x97\xa5\xe6\x9c\xac = (true); }",
 ];
 
 /// Texts that are none, each with its first fault.
-static FAULTS: [(&[u8], SourceFault); 26] = [
+static FAULTS: [(&[u8], SourceFault); 31] = [
     (b"", SourceFault::Parse { offset: 0 }),
     (b"  ", SourceFault::Parse { offset: 2 }),
     (b"m\xff", SourceFault::NotUtf8 { offset: 1 }),
@@ -32,6 +34,23 @@ static FAULTS: [(&[u8], SourceFault); 26] = [
     (
         b"module T() { x = 1 'd2; }",
         SourceFault::Lex { offset: 19 },
+    ),
+    (
+        b"module T() { bv[999999999999999999999] x; }",
+        SourceFault::Lex { offset: 16 },
+    ),
+    (
+        b"module T() { x = 1'd000000000000000000001; }",
+        SourceFault::Lex { offset: 18 },
+    ),
+    (b"module T() { /* }", SourceFault::Lex { offset: 13 }),
+    (
+        b"module T() { assert = true; }",
+        SourceFault::Parse { offset: 13 },
+    ),
+    (
+        b"module T() { weak await(true); }",
+        SourceFault::Parse { offset: 18 },
     ),
     (
         b"module T(event !o){ emit o;",
@@ -91,7 +110,7 @@ static FAULTS: [(&[u8], SourceFault); 26] = [
 ];
 
 /// What is told against these bytes.
-fn fault_of(alloc: Global, bytes: &[u8]) -> Option<SourceFault> {
+pub fn fault_of(alloc: Global, bytes: &[u8]) -> Option<SourceFault> {
     if bytes.len() > 1_048_576 {
         return None;
     }
@@ -188,6 +207,65 @@ fn one_parenthesis_too_deep(rt: HostRuntime) -> Result<(), Fail> {
     assert_eq!(rt;
         fault_of(rt.alloc(), text.as_slice()),
         Some(SourceFault::Deep { offset: 139 })
+    );
+    Ok(())
+}
+
+/// A module with this many formals.
+fn with_formals(alloc: Global, count: usize) -> Result<Vec<u8>, AllocError> {
+    let mut text = Vec::from_slice(alloc, b"module T(event ?a")?;
+    for _ in 1..count {
+        text.extend_from_slice(b", ?a")?;
+    }
+    text.extend_from_slice(b") {}")?;
+    Ok(text)
+}
+
+/// How many formals there may be is no matter of the grammar.
+#[test]
+fn many_formals(rt: HostRuntime) -> Result<(), Fail> {
+    let text = with_formals(rt.alloc(), 257)?;
+    assert!(rt; fault_of(rt.alloc(), text.as_slice()).is_none());
+    Ok(())
+}
+
+/// A statement as deep as it may be, with the words before it and after it so many times.
+fn nested(alloc: Global, before: &[u8], after: &[u8], count: usize) -> Result<Vec<u8>, AllocError> {
+    let mut text = repeated(alloc, before, count, b"pause;")?;
+    for _ in 0..count {
+        text.extend_from_slice(after)?;
+    }
+    text.extend_from_slice(b"}")?;
+    Ok(text)
+}
+
+/// A module's block has level 1, so 126 statements in one another round a `pause` reach level 128, and of 127 the
+/// `pause` is too deep.
+#[test]
+fn nested_statements(rt: HostRuntime) -> Result<(), Fail> {
+    let alloc = rt.alloc();
+    let text = nested(alloc, b"loop ", b"", 126)?;
+    assert!(rt; fault_of(alloc, text.as_slice()).is_none());
+    let text = nested(alloc, b"loop ", b"", 127)?;
+    assert_eq!(rt;
+        fault_of(alloc, text.as_slice()),
+        Some(SourceFault::Deep { offset: 642 })
+    );
+    let text = nested(alloc, b"do ", b" while(a);", 126)?;
+    assert!(rt; fault_of(alloc, text.as_slice()).is_none());
+    Ok(())
+}
+
+/// The condition of an `if` has one level more than the `if`, as its sides have.
+#[test]
+fn nested_conditions(rt: HostRuntime) -> Result<(), Fail> {
+    let alloc = rt.alloc();
+    let text = nested(alloc, b"if(a)", b"", 126)?;
+    assert!(rt; fault_of(alloc, text.as_slice()).is_none());
+    let text = nested(alloc, b"if(a)", b"", 127)?;
+    assert_eq!(rt;
+        fault_of(alloc, text.as_slice()),
+        Some(SourceFault::Deep { offset: 642 })
     );
     Ok(())
 }
