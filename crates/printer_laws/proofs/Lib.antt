@@ -1,0 +1,13 @@
+pub mod Keeping
+pub mod KeepingLists
+pub mod PlainForms
+pub mod KeepingExpressions
+pub mod KeepingParts
+pub mod KeepingStatements
+pub mod KeepingFiles
+pub mod WordPieces
+pub mod SpacedWords
+pub mod SaidWords
+pub mod CanonicalTexts
+pub mod PlainWords
+pub mod Laws
