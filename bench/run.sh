@@ -4,7 +4,7 @@
 # about 10 where time grows linearly; memory grows with the rows, as both keep what they read and put. Then it runs a
 # controller with inputs, vectors and preemptions, which can't be built yet, over its own rows again and again.
 #
-# It needs the program quartzc, which it proves and builds where it isn't built yet.
+# It needs /usr/bin/time, and the program quartzc, which it proves and builds where it isn't built yet.
 set -eu
 top=$(cd "$(dirname "${BASH_SOURCE[0]}")/.." && pwd)
 crate=$top/crates/quartzc
@@ -20,12 +20,10 @@ cd "$folder"
 measured() {
     local begin end
     begin=$(date +%s%N)
-    "$ours" "$@" || { echo "quartzc $*: status $?" >&2; exit 1; }
+    /usr/bin/time -f %M -o memory "$ours" "$@" || { echo "quartzc $*: status $?" >&2; exit 1; }
     end=$(date +%s%N)
     took=$(((end - begin) / 1000))
-    held=$(python3 -c 'import resource, subprocess, sys
-subprocess.run(sys.argv[1:], check=True)
-print(resource.getrusage(resource.RUSAGE_CHILDREN).ru_maxrss)' "$ours" "$@")
+    held=$(cat memory)
 }
 
 ratio() { awk -v one="$1" -v other="$2" 'BEGIN { printf "%.1f", one / other }'; }
