@@ -1,0 +1,9 @@
+mod RestLemmas
+mod Finding
+mod NetLemmas
+mod Reading
+mod FitLemmas
+mod WriterLemmas
+mod SettleLemmas
+mod RoundLemmas
+mod TypingLemmas
