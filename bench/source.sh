@@ -1,7 +1,7 @@
 #!/usr/bin/env bash
 # Reads texts of one form, and of the same form twice as long: statements in a row, expressions of 120 operators,
 # declarations; and 127 levels of parentheses, of blocks and of `if`, again and again. Prints the time of one
-# reading and how both compare.
+# reading and the memory that it takes at its peak beyond the text, and how both compare.
 #
 # It needs /usr/bin/time, and the program crates/source_bench, which it proves and builds where it isn't built yet.
 set -eu
@@ -26,7 +26,7 @@ text() {
     printf 'module T(event !o, bool ?a) {\n'
     case $1 in
         statements) times "$2" $'emit o; pause;\n' ;;
-        expressions) times "$2" "m = $(times 120 'a & ')a;"$'\n' ;;
+        expressions) times "$2" "m=$(times 120 'a&')a;"$'\n' ;;
         declarations) times "$2" $'bv[8] x, y;\n' ;;
         parentheses) times "$2" "m = $(times 125 '(')a$(times 125 ')');"$'\n' ;;
         blocks) times "$2" "$(times 126 '{')pause;$(times 126 '}')"$'\n' ;;
@@ -35,35 +35,41 @@ text() {
     printf '}\n'
 }
 
-# The seconds of user and system time of a run with so many rounds.
-seconds() {
-    /usr/bin/time -f '%U %S' -o "$folder/time" "$ours" "$1" <"$folder/text" >"$folder/said"
-    awk '{ printf "%.3f", $1 + $2 }' "$folder/time"
+# The seconds of user and system time of a run with so many rounds, and its peak in KiB.
+run() {
+    /usr/bin/time -f '%U %S %M' -o "$folder/time" "$ours" "$1" <"$folder/text" >"$folder/said"
+    awk '{ printf "%.3f %d", $1 + $2, $3 }' "$folder/time"
 }
 
-# The milliseconds of one reading: what the rounds take longer than none.
-milliseconds() {
+# The milliseconds and the KiB of one reading: what the rounds take more than none.
+cost() {
     local without with
     text "$1" "$2" >"$folder/text"
-    without=$(seconds 0)
-    with=$(seconds "$rounds")
-    awk -v with="$with" -v without="$without" -v rounds="$rounds" 'BEGIN { printf "%.2f", (with - without) * 1000 / rounds }'
+    without=$(run 0)
+    with=$(run "$rounds")
+    awk -v with="$with" -v without="$without" -v rounds="$rounds" 'BEGIN {
+        split(with, w); split(without, o)
+        printf "%.2f %d", (w[1] - o[1]) * 1000 / rounds, w[2] - o[2]
+    }'
 }
 
 # measure FAMILY N: its line.
 measure() {
     local once twice
-    once=$(milliseconds "$1" "$2")
-    twice=$(milliseconds "$1" $((2 * $2)))
-    awk -v family="$1" -v n="$2" -v once="$once" -v twice="$twice" -v said="$(cat "$folder/said")" 'BEGIN {
-        ratio = "-"
-        if (once > 0) ratio = sprintf("%.1f", twice / once)
-        printf "%s: %d in %s ms, %d in %s ms; x %s (the longer one: %s bytes)\n", family, n, once, 2 * n, twice, ratio, said
+    once=$(cost "$1" "$2")
+    twice=$(cost "$1" $((2 * $2)))
+    awk -v family="$1" -v n="$2" -v once="$once" -v twice="$twice" -v said="$(cat "$folder/said")" '
+    function ratio(a, b) { return a > 0 ? sprintf("%.1f", b / a) : "-" }
+    BEGIN {
+        split(once, a); split(twice, b)
+        printf "%s: %d in %s ms, %d in %s ms; x %s\n", family, n, a[1], 2 * n, b[1], ratio(a[1], b[1])
+        printf "    peak %d KiB, %d KiB; x %s (the longer one: %s bytes)\n", a[2], b[2], ratio(a[2], b[2]), said
     }'
 }
 
 measure statements 30000
-measure expressions 1000
+measure expressions 2000
+measure declarations 10000
 measure declarations 40000
 measure parentheses 1500
 measure blocks 1800
