@@ -1,4 +1,4 @@
-//! Sources at the limits of `run`: bytes, levels and sizes.
+//! Sources at the limits of `run`: bytes, levels and sizes; and bytes that are no text.
 
 ghost use Rattle.std.specs.Prelude.{◌<◌};
 
@@ -30,10 +30,11 @@ fn spaces(alloc: Global, count: u32) -> Result<String, AllocError> {
 }
 
 /// What `run D d.qz` over no rows writes.
-fn line_of(alloc: Global, source: &str) -> Result<MemSink, AllocError> {
+fn line_of(alloc: Global, source: &[u8]) -> Result<MemSink, AllocError> {
     let mut files = MemFiles::new(alloc);
     let mut sink = MemSink::new(alloc);
-    hold(alloc, &mut files, "d.qz", Some(source))?;
+    let bytes = Vec::from_slice(alloc, source)?;
+    files.held.push((String::from_str(alloc, "d.qz")?, bytes))?;
     hold(alloc, &mut files, "D.in", Some(""))?;
     let words = texts(alloc, &["run", "D", "d.qz"])?;
     let _status = quartzc(alloc, words.as_slice(), &mut files, &mut sink);
@@ -46,9 +47,9 @@ fn line_of(alloc: Global, source: &str) -> Result<MemSink, AllocError> {
 #[test]
 fn levels(rt: HostRuntime) -> Result<(), Fail> {
     let alloc = rt.alloc();
-    let within = line_of(alloc, nested(alloc, 127)?.as_str())?;
+    let within = line_of(alloc, nested(alloc, 127)?.as_bytes())?;
     assert!(rt; within.bytes.as_slice() == "put".as_bytes());
-    let above = line_of(alloc, nested(alloc, 128)?.as_str())?;
+    let above = line_of(alloc, nested(alloc, 128)?.as_bytes())?;
     assert!(rt; above.bytes.as_slice() == "d.qz: nested too deep at byte 146\n".as_bytes());
     Ok(())
 }
@@ -56,9 +57,9 @@ fn levels(rt: HostRuntime) -> Result<(), Fail> {
 #[test]
 fn sizes(rt: HostRuntime) -> Result<(), Fail> {
     let alloc = rt.alloc();
-    let within = line_of(alloc, sized(alloc, 49_997, "emit o;")?.as_str())?;
+    let within = line_of(alloc, sized(alloc, 49_997, "emit o;")?.as_bytes())?;
     assert!(rt; within.bytes.as_slice() == "put".as_bytes());
-    let above = line_of(alloc, sized(alloc, 49_996, "halt;")?.as_str())?;
+    let above = line_of(alloc, sized(alloc, 49_996, "halt;")?.as_bytes())?;
     assert!(rt; above.bytes.as_slice() == "d.qz: size 100001 is above 100000\n".as_bytes());
     Ok(())
 }
@@ -66,9 +67,16 @@ fn sizes(rt: HostRuntime) -> Result<(), Fail> {
 #[test]
 fn lengths(rt: HostRuntime) -> Result<(), Fail> {
     let alloc = rt.alloc();
-    let within = line_of(alloc, spaces(alloc, 1_048_576)?.as_str())?;
+    let within = line_of(alloc, spaces(alloc, 1_048_576)?.as_bytes())?;
     assert!(rt; within.bytes.as_slice() == "d.qz: syntax at byte 1048576\n".as_bytes());
-    let above = line_of(alloc, spaces(alloc, 1_048_577)?.as_str())?;
+    let above = line_of(alloc, spaces(alloc, 1_048_577)?.as_bytes())?;
     assert!(rt; above.bytes.as_slice() == "d.qz: too long\n".as_bytes());
+    Ok(())
+}
+
+#[test]
+fn bytes(rt: HostRuntime) -> Result<(), Fail> {
+    let told = line_of(rt.alloc(), b"m\xff")?;
+    assert!(rt; told.bytes.as_slice() == "d.qz: not UTF-8 at byte 1\n".as_bytes());
     Ok(())
 }
