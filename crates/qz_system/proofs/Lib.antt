@@ -1,9 +1,9 @@
 mod RestLemmas
-mod Finding
-mod NetLemmas
-mod Reading
-mod FitLemmas
-mod WriterLemmas
+pub mod Finding
+pub mod NetLemmas
+pub mod Reading
+pub mod FitLemmas
+pub mod WriterLemmas
 mod SettleLemmas
-mod RoundLemmas
-mod TypingLemmas
+pub mod RoundLemmas
+pub mod TypingLemmas

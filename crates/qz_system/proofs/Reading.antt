@@ -51,12 +51,12 @@ module _ (types : ℕ → Option Ty) (leaf know : ℕ → Know) (typed : (n : �
       (typed_concat p.s p.t u (know a.0) (know b.0) p.gives (typed a.0 p.s p.first) (typed b.0 p.t p.second)).2
 
 -- an entry that has a type
-entry_of : (o : Option (Net × Ty)) (ty : Ty) → option_map (λ (e : Net × Ty). e.1) o ≡ Some ty → (n : Net) × (o ≡ Some (n, ty))
+pub entry_of : (o : Option (Net × Ty)) (ty : Ty) → option_map (λ (e : Net × Ty). e.1) o ≡ Some ty → (n : Net) × (o ≡ Some (n, ty))
 entry_of None ty h = absurd (cc)
 entry_of (Some e) ty h = (e.0, let same : e.1 ≡ ty = cc in λ i. Some (e.0, same i))
 
 -- a type among the first nets is one of the table
-type_before : (entries : List (Net × Ty)) (k n : ℕ) (ty : Ty) → type_at (take k entries) n ≡ Some ty → (n < k) × (type_at entries n ≡ Some ty)
+pub type_before : (entries : List (Net × Ty)) (k n : ℕ) (ty : Ty) → type_at (take k entries) n ≡ Some ty → (n < k) × (type_at entries n ≡ Some ty)
 type_before entries zero n ty h = absurd (cc)
 type_before [] (suc k) n ty h = absurd (cc)
 type_before (e ∷ entries) (suc k) zero ty h = (omega arith, h)

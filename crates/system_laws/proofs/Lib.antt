@@ -1,0 +1,5 @@
+pub mod Knowing
+pub mod Nets
+pub mod Settling
+pub mod OneRound
+pub mod Ends
