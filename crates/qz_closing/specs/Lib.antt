@@ -1,0 +1,5 @@
+pub mod ProgramParts
+pub mod ShapesOf
+pub mod Encoding
+pub mod Closes
+pub mod Shaped
