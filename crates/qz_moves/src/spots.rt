@@ -9,7 +9,7 @@ use qz_syntax::Mark;
 use std::alloc::AllocError;
 
 /// What is so after a step.
-#[derive(Clone, Copy, Debug, Drop, PartialEq, Eq)]
+#[derive(Clone, Copy, Debug, Drop, PartialEq, Eq, Hash)]
 pub enum Rest {
     /// Control rests at a place.
     At(u32),

@@ -1,0 +1,4 @@
+pub mod SameRests
+pub mod Adding
+pub mod Known
+pub mod Plainly

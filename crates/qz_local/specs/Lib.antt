@@ -1,0 +1,3 @@
+pub mod Joined
+pub mod Nets
+pub mod Plain
