@@ -1,0 +1,17 @@
+pub mod MetNumbers
+pub mod Numbered
+pub mod KeptMet
+pub mod Places
+pub mod Seeing
+pub mod ActsSame
+pub mod CallsNone
+pub mod StepVerdicts
+pub mod Instanced
+pub mod Agreeing
+pub mod Begins
+pub mod RoundsSame
+pub mod PlainValues
+pub mod Plain
+pub mod SpotLists
+pub mod NextsSame
+pub mod AllClosed
