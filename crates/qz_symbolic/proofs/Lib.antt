@@ -1,0 +1,11 @@
+pub mod Lists
+pub mod Growing
+pub mod Spots
+pub mod OwnSpots
+pub mod Scopes
+pub mod Spelling
+pub mod StoreBits
+pub mod LeafRails
+pub mod Acting
+pub mod SettledRails
+pub mod Rounding

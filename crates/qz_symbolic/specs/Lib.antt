@@ -1,0 +1,9 @@
+pub mod Variables
+pub mod Positions
+pub mod Telling
+pub mod Placings
+pub mod Views
+pub mod Permissions
+pub mod Knowing
+pub mod Settled
+pub mod Rounds
