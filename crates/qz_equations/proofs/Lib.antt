@@ -1,0 +1,16 @@
+mod RegisterLemmas
+mod VerdictLemmas
+mod Keeping
+mod Showing
+mod InstanceLemmas
+mod LeafLemmas
+mod BegunLemmas
+mod NetLemmas
+mod ActLemmas
+mod FlagLemmas
+mod StoreLemmas
+mod RoundLemmas
+mod OutputLemmas
+mod NextLemmas
+mod KnownLemmas
+mod ModuleLemmas

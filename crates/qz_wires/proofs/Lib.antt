@@ -1,0 +1,10 @@
+pub mod SameWires
+pub mod Growing
+pub mod Through
+pub mod Choices
+pub mod OperatorTypes
+pub mod Saying
+pub mod Operands
+pub mod NetTypes
+pub mod Forms
+pub mod NetLists

@@ -1,0 +1,13 @@
+use Rattle.std.proofs.Common.{ap}
+use Rattle.qz_values.specs.Values.{is_yes}
+use Rattle.qz_wires.proofs.Through.{through}
+use Rattle.qz_wires.proofs.operators.constant.Goals as goal
+
+pub returns-clause-extends : goal.returns-clause-extends
+returns-clause-extends c = through c.in_ok-known.ensures.extends c.in_ok-net.ensures.extends
+
+pub returns-clause-means : goal.returns-clause-means
+returns-clause-means c = λ nets reads. (
+  ap is_yes (c.in_ok-known.ensures.means nets (c.in_ok-net.ensures.extends.reads nets reads)),
+  c.in_ok-net.ensures.means nets reads,
+)

@@ -1,0 +1,4 @@
+pub mod Sound
+pub mod WireTable
+pub mod Rails
+pub mod NetRails
