@@ -1,7 +1,6 @@
 -- Acts on instances, and tallies that count one more.
-use Rattle.std.proofs.Common.{◌≡◌, ◌≢◌, ◌<◌, ◌+◌, ℕ, zero, suc, Bool, true, false, List, [], ◌∷◌, length, get_or, set, drop, Option, Some, None, refl, sym, ap, subst, ◌∙◌, ◌⊎◌, inl, inr, arith, if◌then◌else◌}
+use Rattle.std.proofs.Common.{◌≡◌, ◌≢◌, ℕ, zero, suc, Bool, true, false, List, [], ◌∷◌, set, Option, Some, None, refl, sym, ap, subst, ◌∙◌, ◌⊎◌, inl, inr, arith, if◌then◌else◌}
 use Rattle.std.specs.Prelude.{◌==◌, slice_get}
-use Rattle.std.specs.Option.{option_map_or}
 use Rattle.std.proofs.lemmas.Bool.{and_parts, false≢true, eq-eqb}
 use Rattle.std.proofs.lemmas.List.{length-set}
 use Rattle.qz_values.specs.declared.Ty.{Ty}
@@ -13,8 +12,8 @@ use Rattle.qz_verilog.specs.Meaning.{Nets}
 use Rattle.qz_meaning.specs.Verdicts.{Verdict, join}
 use Rattle.qz_system.specs.declared.parts.Act.{Act}
 use Rattle.qz_system.specs.declared.parts.SystemParts.{SystemParts}
-use Rattle.qz_system.specs.Parts.{instance_type, is_the, are_one, is_bool_net, is_act_right}
-use Rattle.qz_system.specs.Writers.{is_to, verdict_of_act, tally_of}
+use Rattle.qz_system.specs.Parts.{instance_type, are_one, is_bool_net, is_act_right}
+use Rattle.qz_system.specs.Writers.{is_to, verdict_of_act}
 use Rattle.qz_system.proofs.Finding.{the_type}
 use Rattle.qz_equations.specs.declared.tallies.Tally.{Tally}
 use Rattle.qz_equations.specs.Tallies.{ShowsVerdict, ShowVerdicts, IsTally}

@@ -1,21 +1,20 @@
 -- Instances begin with what registers hold: at a permitted valuation a variable that doesn't exist has a new store.
-use Rattle.std.proofs.Common.{◌≡◌, ℕ, zero, suc, ◌+◌, ◌<◌, Bool, true, false, List, [], ◌∷◌, length, get_or, Some, refl, sym, ap, ap₂, subst, ◌∙◌, arith, if◌then◌else◌}
-use Rattle.std.specs.Prelude.{◌&&◌, ◌||◌, not, ◌==◌, nat_lt, slice_get}
+use Rattle.std.proofs.Common.{◌≡◌, ℕ, zero, suc, ◌+◌, Bool, true, false, List, [], ◌∷◌, length, get_or, Some, refl, sym, ap, ap₂, subst, ◌∙◌, arith, if◌then◌else◌}
+use Rattle.std.specs.Prelude.{◌&&◌, ◌||◌, nat_lt, slice_get}
 use Rattle.std.specs.List.{list_all}
 use Rattle.std.proofs.lemmas.Bool.{and_parts, false≢true, eqb-true}
 use Rattle.qz_values.specs.declared.Ty.{Ty}
 use Rattle.qz_values.specs.declared.Value.{Value}
 use Rattle.qz_values.specs.Types.{IsType}
-use Rattle.qz_values.specs.Values.{value_of, default_of, is_yes, no}
+use Rattle.qz_values.specs.Values.{value_of, is_yes, no}
 use Rattle.std.proofs.lemmas.Option.{slice_get_within}
-use Rattle.qz_syntax.specs.declared.places.Store.{Store}
 use Rattle.qz_meaning.specs.Scenes.{default_store}
 use Rattle.qz_system.specs.declared.parts.Cell.{Cell}
 use Rattle.qz_system.specs.declared.parts.Inst.{Inst}
 use Rattle.qz_system.specs.declared.parts.SystemParts.{SystemParts}
 use Rattle.qz_system.specs.declared.valuation.Valuation.{Valuation}
 use Rattle.qz_system.specs.Valuations.{store_of, no_store, is_new, is_store_of, exists_at, have_stores, lives_at, is_place, is_initial, is_permitted}
-use Rattle.qz_system.specs.Rounds.{stored, keeps, begins}
+use Rattle.qz_system.specs.Rounds.{stored, begins}
 use Rattle.qz_verilog.specs.declared.nets.Ref.TheVariants as net
 use Rattle.qz_verilog.specs.Validity.{IsNetOf}
 use Rattle.qz_verilog.specs.Meaning.{Nets}
@@ -24,7 +23,7 @@ use Rattle.qz_wires.specs.WireTable.{types_in}
 use Rattle.qz_equations.specs.declared.tallies.StoreNets.{StoreNets}
 use Rattle.qz_equations.specs.Registers.{registers_at, mark_register, value_register, Holds, AreOver}
 use Rattle.qz_equations.specs.Tallies.{ShowsStore, IsStoreOf}
-use Rattle.qz_equations.specs.Unrolled.{is_kept, begun}
+use Rattle.qz_equations.specs.Unrolled.{begun}
 use Rattle.qz_equations.proofs.RegisterLemmas.{mark_at, value_at, bool_register, value_typed}
 use Rattle.qz_equations.proofs.VerdictLemmas.{truth_is}
 

@@ -1,5 +1,5 @@
 -- Lists of flags, and known values read as flags.
-use Rattle.std.proofs.Common.{◌≡◌, ◌≢◌, ◌<◌, ◌||◌, ◌&&◌, ℕ, zero, suc, Bool, true, false, List, [], ◌∷◌, length, get_or, set, Option, Some, None, refl, sym, ap, subst, ◌∙◌, ◌⊎◌, inl, inr, arith}
+use Rattle.std.proofs.Common.{◌≡◌, ◌≢◌, ◌<◌, ◌||◌, ◌&&◌, ℕ, zero, suc, Bool, true, false, List, length, set, Some, refl, ap, subst, ◌∙◌, ◌⊎◌, inl, inr}
 use Rattle.std.specs.Prelude.{◌==◌, nat_lt, slice_get, replicate}
 use Rattle.std.proofs.lemmas.Bool.{and_parts, false≢true, eq-eqb, ltb-true}
 use Rattle.qz_values.specs.declared.Ty.TheVariants.{Bool as Truth}
@@ -15,7 +15,7 @@ use Rattle.qz_verilog.specs.Types.{NetTypes}
 use Rattle.qz_verilog.specs.Validity.{IsNetOf}
 use Rattle.qz_verilog.specs.Meaning.{Nets, value_at}
 use Rattle.qz_system.specs.declared.parts.SystemParts.{SystemParts}
-use Rattle.qz_system.specs.Parts.{is_bool_net, is_next_right}
+use Rattle.qz_system.specs.Parts.{is_next_right}
 use Rattle.qz_system.specs.Nexts.{is_known}
 use Rattle.qz_system.proofs.Finding.{the_type}
 use Rattle.qz_wires.specs.Rails.{Says}

@@ -1,12 +1,11 @@
 -- Where each instance is known, each net is; and what a definite round says.
-use Rattle.std.proofs.Common.{◌≡◌, ℕ, zero, suc, ◌<◌, Bool, true, false, List, length, get_or, Option, Some, None, refl, sym, ap, subst, ◌∙◌, arith, ◌||◌, if◌then◌else◌}
-use Rattle.std.specs.Prelude.{nat_lt, slice_get, slice_index_or}
+use Rattle.std.proofs.Common.{◌≡◌, ℕ, zero, suc, ◌<◌, Bool, true, false, List, Option, Some, None, refl, sym, subst, arith, ◌||◌, if◌then◌else◌}
+use Rattle.std.specs.Prelude.{slice_get, slice_index_or}
 use Rattle.std.specs.List.{All}
-use Rattle.std.specs.Option.{option_map, option_map_or, option_and_then}
+use Rattle.std.specs.Option.{option_map, option_map_or}
 use Rattle.std.proofs.lemmas.Bool.{false≢true}
-use Rattle.std.proofs.lemmas.Option.{slice_get-map, slice_get_within, get_or_from_slice_get}
+use Rattle.std.proofs.lemmas.Option.{slice_get_within, get_or_from_slice_get}
 use Rattle.qz_values.specs.declared.Ty.{Ty}
-use Rattle.qz_values.specs.declared.Ty.TheVariants.{Bool as Truth}
 use Rattle.qz_values.specs.declared.Op1.{Op1}
 use Rattle.qz_values.specs.declared.Op2.{Op2}
 use Rattle.qz_values.specs.declared.Know.{Know}
@@ -20,7 +19,7 @@ use Rattle.qz_nets.specs.declared.net.Net.{Net}
 use Rattle.qz_nets.specs.declared.net.Net.TheVariants as net
 use Rattle.qz_nets.specs.declared.table.NetTable.{NetTable}
 use Rattle.qz_nets.specs.Nets.{net_type, net_know}
-use Rattle.qz_nets.specs.Readings.{net_in, type_in, listed, Reads}
+use Rattle.qz_nets.specs.Readings.{net_in, type_in, listed}
 use Rattle.qz_syntax.specs.declared.declarations.Port.{Port}
 use Rattle.qz_syntax.specs.declared.places.Later.{Later}
 use Rattle.qz_syntax.specs.declared.places.Later.TheVariants as later
@@ -31,7 +30,7 @@ use Rattle.qz_system.specs.declared.parts.SystemLeaf.{SystemLeaf}
 use Rattle.qz_system.specs.declared.parts.SystemLeaf.TheVariants as leaf
 use Rattle.qz_system.specs.declared.parts.SystemParts.{SystemParts}
 use Rattle.qz_system.specs.declared.valuation.Valuation.{Valuation}
-use Rattle.qz_system.specs.Parts.{AreParts, leaf_stands, cell_type, instance_type}
+use Rattle.qz_system.specs.Parts.{AreParts, leaf_stands}
 use Rattle.qz_system.specs.Writers.{verdict_of}
 use Rattle.qz_system.specs.Rounds.{leaf_known, leaves_known, settles, IsRound}
 use Rattle.qz_system.specs.Nexts.{is_known, is_told}

@@ -1,30 +1,27 @@
 -- Leaves are of their types, and what is known of them stands in inputs and registers.
-use Rattle.std.proofs.Common.{◌≡◌, ℕ, suc, ◌+◌, ◌<◌, Bool, true, false, List, [], ◌∷◌, ◌++◌, map, length, get_or, Option, Some, None, refl, sym, ap, subst, ◌∙◌, ◌⊎◌, inl, inr, arith, if◌then◌else◌}
+use Rattle.std.proofs.Common.{◌≡◌, ℕ, ◌<◌, Bool, true, false, List, [], ◌∷◌, ◌++◌, length, get_or, Option, Some, None, refl, sym, ap, subst, ◌∙◌, ◌⊎◌, inl, inr, arith, if◌then◌else◌}
 use Rattle.std.specs.Prelude.{nat_lt, slice_get, slice_index_or}
-use Rattle.std.specs.Option.{option_map, option_map_or, option_and_then}
+use Rattle.std.specs.Option.{option_map, option_map_or}
 use Rattle.std.proofs.lemmas.Bool.{ltb-true, false≢true}
-use Rattle.std.proofs.lemmas.Option.{slice_get-map, slice_get_within, slice_get-get_or, get_or_from_slice_get, same_Some}
+use Rattle.std.proofs.lemmas.Option.{slice_get-map, get_or_from_slice_get, same_Some}
 use Rattle.qz_values.specs.declared.Ty.{Ty}
 use Rattle.qz_values.specs.declared.Ty.TheVariants.{Bool as Truth}
 use Rattle.qz_values.specs.declared.Value.{Value}
 use Rattle.qz_values.specs.declared.Know.{Know}
 use Rattle.qz_values.specs.declared.Know.TheVariants.{Unknown, Known}
-use Rattle.qz_values.specs.Types.{IsType, is_type}
-use Rattle.qz_values.specs.Values.{value_of, truth_of, no}
+use Rattle.qz_values.specs.Types.{is_type}
+use Rattle.qz_values.specs.Values.{value_of, no}
 use Rattle.qz_nets.specs.Readings.{listed}
 use Rattle.qz_syntax.specs.declared.declarations.Port.{Port}
 use Rattle.qz_verilog.specs.declared.nets.Ref.TheVariants as net
 use Rattle.qz_verilog.specs.Types.{NetTypes}
 use Rattle.qz_verilog.specs.Validity.{IsNetOf}
 use Rattle.qz_verilog.specs.Meaning.{Nets, value_at}
-use Rattle.qz_system.specs.declared.parts.Cell.{Cell}
-use Rattle.qz_system.specs.declared.parts.Inst.{Inst}
 use Rattle.qz_system.specs.declared.parts.SystemLeaf.{SystemLeaf}
 use Rattle.qz_system.specs.declared.parts.SystemLeaf.TheVariants as leaf
 use Rattle.qz_system.specs.declared.parts.SystemParts.{SystemParts}
 use Rattle.qz_system.specs.declared.valuation.Valuation.{Valuation}
-use Rattle.qz_system.specs.Parts.{AreParts, instance_type, cell_type, is_leaf_right, leaf_stands}
-use Rattle.qz_system.specs.Valuations.{rests_at}
+use Rattle.qz_system.specs.Parts.{AreParts, instance_type, is_leaf_right, leaf_stands}
 use Rattle.qz_system.specs.Rounds.{leaf_known, leaves_known}
 use Rattle.qz_system.proofs.Finding.{all_at}
 use Rattle.qz_system.proofs.FitLemmas.{type_there}
@@ -32,10 +29,10 @@ use Rattle.qz_system.proofs.TypingLemmas.{instance_within}
 use Rattle.qz_wires.specs.declared.wires.Wires.{Wires}
 use Rattle.qz_wires.specs.declared.rails.Rail.{Rail}
 use Rattle.qz_wires.specs.WireTable.{types_in}
-use Rattle.qz_wires.specs.Rails.{Shows, ShowEach, IsRail}
-use Rattle.qz_equations.specs.Registers.{AreOver, Holds, registers_at, inputs_at, place_register}
-use Rattle.qz_equations.specs.Unrolled.{AreInstanceRails, AreLeavesOf}
-use Rattle.qz_equations.proofs.Showing.{get_pushed}
+use Rattle.qz_wires.specs.Rails.{IsRail}
+use Rattle.qz_equations.specs.Registers.{AreOver, Holds, place_register}
+use Rattle.qz_equations.specs.Unrolled.{AreLeavesOf}
+use Rattle.qz_wires.proofs.NetLists.{get_pushed}
 use Rattle.qz_equations.proofs.RegisterLemmas.{input_at, place_at, input_typed, bool_register}
 
 module _ (parts : SystemParts) (are : AreParts parts) where

@@ -14,3 +14,4 @@ mod OutputLemmas
 mod NextLemmas
 mod KnownLemmas
 mod ModuleLemmas
+mod Running

@@ -1,10 +1,10 @@
 -- The module of a system is valid, and its nets have values of their types.
-use Rattle.std.proofs.Common.{◌≡◌, ℕ, zero, suc, ◌+◌, ◌<◌, ◌≤◌, ◌^◌, Bool, true, false, List, [], ◌∷◌, ◌++◌, map, length, take, Option, Some, None, refl, sym, ap, ap₂, subst, ◌∙◌, arith}
-use Rattle.std.specs.Prelude.{◌&&◌, slice_get, slice_index_or, replicate}
+use Rattle.std.proofs.Common.{◌≡◌, ℕ, zero, suc, ◌+◌, ◌<◌, ◌≤◌, Bool, true, false, List, [], ◌∷◌, ◌++◌, map, length, take, Option, Some, None, refl, sym, ap, ap₂, subst, ◌∙◌, arith}
+use Rattle.std.specs.Prelude.{slice_get, slice_index_or, replicate}
 use Rattle.std.specs.List.{list_all, range_with_len, AllByRecursion}
 use Rattle.std.specs.Option.{option_map, option_map_or, option_and_then}
 use Rattle.std.proofs.lemmas.Bool.{and_parts, false≢true}
-use Rattle.std.proofs.lemmas.List.{append-nil, append_assoc, map_push, take_at, length-take-le, length-map}
+use Rattle.std.proofs.lemmas.List.{append_assoc, map_push, take_at, length-take-le, length-map}
 use Rattle.std.proofs.lemmas.Option.{slice_get-map, same_Some, slice_get_within}
 use Rattle.qz_values.specs.declared.Ty.{Ty}
 use Rattle.qz_values.specs.declared.Ty.TheVariants.{Bool as Truth}
@@ -12,7 +12,7 @@ use Rattle.qz_values.specs.declared.Value.{Value}
 use Rattle.qz_values.specs.declared.Know.{Know}
 use Rattle.qz_values.specs.declared.Know.TheVariants.{Unknown, Known, Clash}
 use Rattle.qz_values.specs.Types.{IsType, is_type, is_same_type, width_of}
-use Rattle.qz_values.specs.Values.{IsValue, value_of, type_of, bits_of, default_of, truth_of, is_yes}
+use Rattle.qz_values.specs.Values.{IsValue, value_of, default_of, truth_of, is_yes}
 use Rattle.qz_values.specs.Fits.{IsOf}
 use Rattle.qz_values.proofs.Typed.{same-is_same_type}
 use Rattle.std.proofs.lemmas.Nat.{pow_pos}
@@ -22,7 +22,7 @@ use Rattle.qz_verilog.specs.declared.nets.Ref.{Ref}
 use Rattle.qz_verilog.specs.declared.nets.Rhs.{Rhs}
 use Rattle.qz_verilog.specs.declared.modules.VModule.{VModule}
 use Rattle.qz_verilog.specs.Types.{NetTypes}
-use Rattle.qz_verilog.specs.Validity.{declared_types, types_of, wire_types, with_wire, port_types, register_types, IsWire, AreWires, IsNetOf, AreNetsOf, IsValid}
+use Rattle.qz_verilog.specs.Validity.{declared_types, types_of, port_types, register_types, IsWire, AreWires, IsNetOf, AreNetsOf, IsValid}
 use Rattle.qz_verilog.specs.Meaning.{Nets, value_at, Settles}
 use Rattle.qz_verilog.specs.Runs.{AreOf, nets_of}
 use Rattle.qz_verilog.specs.Simulation.{row_of, value_in}
@@ -38,8 +38,8 @@ use Rattle.qz_system.proofs.FitLemmas.{type_there, value_there}
 use Rattle.qz_wires.specs.declared.wires.Wires.{Wires}
 use Rattle.qz_wires.specs.declared.rails.Rail.{Rail}
 use Rattle.qz_wires.specs.Sound.{AreSound}
-use Rattle.qz_wires.specs.WireTable.{rights, types_in, Reads}
-use Rattle.qz_wires.specs.Rails.{Says, ShowEach, IsRail}
+use Rattle.qz_wires.specs.WireTable.{rights, types_in}
+use Rattle.qz_wires.specs.Rails.{Says, ShowEach}
 use Rattle.qz_equations.specs.Registers.{AreOver, cell_types, marks_of, bits_of_stores, registers_at, inputs_at, initial_registers}
 use Rattle.qz_equations.specs.Unrolled.{AreInstanceRails}
 use Rattle.qz_equations.specs.Ends.{HaveValues}

@@ -1,9 +1,8 @@
 -- The row of what registers take: its types, and its values.
-use Rattle.std.proofs.Common.{◌≡◌, ℕ, zero, suc, ◌+◌, ◌<◌, ◌^◌, Bool, true, false, List, [], ◌∷◌, ◌++◌, map, length, Option, Some, None, refl, sym, ap, ap₂, subst, ◌∙◌, arith, if◌then◌else◌}
-use Rattle.std.specs.Prelude.{◌==◌, ◌&&◌, slice_get, replicate}
+use Rattle.std.proofs.Common.{◌≡◌, ℕ, zero, suc, ◌+◌, Bool, false, List, [], ◌∷◌, ◌++◌, map, length, Option, Some, None, refl, sym, ap, ap₂, ◌∙◌, arith}
+use Rattle.std.specs.Prelude.{slice_get, replicate}
 use Rattle.std.specs.List.{range_with_len}
 use Rattle.std.specs.Option.{option_map_or}
-use Rattle.std.proofs.lemmas.Bool.{cases_eq}
 use Rattle.std.proofs.lemmas.List.{append_assoc, map-append, replicate-append-replicate}
 use Rattle.qz_values.specs.declared.Ty.{Ty}
 use Rattle.qz_values.specs.declared.Ty.TheVariants.{Bool as Truth}
@@ -12,21 +11,19 @@ use Rattle.qz_values.specs.declared.Know.{Know}
 use Rattle.qz_values.specs.Values.{value_of, type_of, bits_of, default_of, truth_of, is_yes}
 use Rattle.qz_values.specs.Fits.{IsOf}
 use Rattle.qz_syntax.specs.declared.places.Later.{Later}
-use Rattle.qz_syntax.specs.declared.places.Store.{Store}
 use Rattle.qz_verilog.specs.declared.nets.Ref.{Ref}
 use Rattle.qz_verilog.specs.Types.{NetTypes}
-use Rattle.qz_verilog.specs.Validity.{AreNetsOf, IsNetOf, register_types}
+use Rattle.qz_verilog.specs.Validity.{AreNetsOf, register_types}
 use Rattle.qz_verilog.specs.Meaning.{Nets, value_at}
 use Rattle.qz_verilog.specs.Simulation.{row_of}
 use Rattle.qz_system.specs.declared.parts.Cell.{Cell}
 use Rattle.qz_system.specs.declared.parts.SystemParts.{SystemParts}
-use Rattle.qz_system.specs.declared.valuation.Valuation.{Valuation}
 use Rattle.qz_system.specs.Valuations.{no_store}
-use Rattle.qz_system.specs.Nexts.{as_bits, next_store, source, rests_next}
+use Rattle.qz_system.specs.Nexts.{as_bits, next_store, source}
 use Rattle.qz_equations.specs.declared.tallies.StoreNets.{StoreNets}
 use Rattle.qz_equations.specs.Registers.{cell_types, marks_of, bits_of_stores, initial_registers}
-use Rattle.qz_equations.specs.Tallies.{ShowsStore, IsStoreOf}
-use Rattle.qz_equations.specs.Ends.{AreFlags, AreStores, ShowFlags, coming, HaveValues}
+use Rattle.qz_equations.specs.Tallies.{IsStoreOf}
+use Rattle.qz_equations.specs.Ends.{AreFlags, coming}
 
 pub nets_joined : (types : NetTypes) (ts us : List Ty) (xs ys : List Ref) → AreNetsOf types ts xs → AreNetsOf types us ys → AreNetsOf types (ts ++ us) (xs ++ ys)
 nets_joined types [] us [] ys h k = k

@@ -1,7 +1,6 @@
 -- Lists of rails and tallies that grow.
-use Rattle.std.proofs.Common.{◌≡◌, ℕ, zero, suc, ◌<◌, List, [], ◌∷◌, ◌++◌, length, Some, refl, sym, ap, subst, ◌∙◌, ◌⊎◌, inl, inr}
+use Rattle.std.proofs.Common.{◌≡◌, ℕ, List, [], ◌∷◌, ◌++◌, length, Some, sym, ap, subst, ◌∙◌, ◌⊎◌, inl, inr}
 use Rattle.std.specs.Prelude.{slice_get}
-use Rattle.qz_values.specs.declared.Know.{Know}
 use Rattle.qz_verilog.specs.Meaning.{Nets}
 use Rattle.qz_meaning.specs.Verdicts.{Verdict}
 use Rattle.qz_wires.specs.declared.rails.Rail.{Rail}
@@ -9,26 +8,11 @@ use Rattle.qz_values.specs.declared.Ty.{Ty}
 use Rattle.qz_verilog.specs.Types.{NetTypes}
 use Rattle.qz_system.specs.declared.parts.SystemParts.{SystemParts}
 use Rattle.qz_system.specs.Parts.{instance_type}
-use Rattle.qz_wires.specs.Rails.{Shows, ShowEach, IsRail}
+use Rattle.qz_wires.specs.Rails.{IsRail}
+use Rattle.qz_wires.proofs.NetLists.{get_pushed}
 use Rattle.qz_equations.specs.declared.tallies.Tally.{Tally}
 use Rattle.qz_equations.specs.Tallies.{ShowsVerdict, ShowVerdicts, IsTally}
 use Rattle.qz_equations.specs.Unrolled.{AreFirstRails, AreFirstTallies}
-
--- what stands in a list with one more element stood there, or is that element at the end
-pub get_pushed : {A : Type 0} (xs : List A) (y : A) (k : ℕ) (x : A) → slice_get (xs ++ y ∷ []) k ≡ Some x →
-    (slice_get xs k ≡ Some x) ⊎ ((k ≡ length xs) × (y ≡ x))
-get_pushed [] y zero x e = inr (refl, cc)
-get_pushed [] y (suc k) x e = absurd (cc)
-get_pushed (z ∷ xs) y zero x e = inl e
-get_pushed (z ∷ xs) y (suc k) x e = elim (get_pushed xs y k x e) [ inl h ↦ inl h | inr h ↦ inr (ap suc h.0, h.1) ]
-
-pub show_more : (nets : Nets) (rails : List Rail) (rail : Rail) (know : ℕ → Know) → ShowEach nets rails know
-    → Shows nets rail (know (length rails)) → ShowEach nets (rails ++ rail ∷ []) know
-show_more nets rails rail know each last = λ n r at. by n r (get_pushed rails rail n r at)
-  where
-    by : (n : ℕ) (r : Rail) → (slice_get rails n ≡ Some r) ⊎ ((n ≡ length rails) × (rail ≡ r)) → Shows nets r (know n)
-    by n r (inl old) = each n r old
-    by n r (inr here) = rw (here.0, ← here.1) last
 
 pub first_rails_more : (types : NetTypes) (parts : SystemParts) (rails : List Rail) (rail : Rail) → AreFirstRails types parts rails
     → ((ty : Ty) → instance_type parts (length rails) ≡ Some ty → IsRail types ty rail) → AreFirstRails types parts (rails ++ rail ∷ [])

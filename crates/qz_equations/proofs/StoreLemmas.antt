@@ -1,5 +1,5 @@
 -- Stores that come from instances, and lists of them.
-use Rattle.std.proofs.Common.{◌≡◌, ◌≢◌, ◌<◌, ◌||◌, ◌&&◌, ℕ, zero, suc, Bool, true, false, List, [], ◌∷◌, ◌++◌, length, get_or, set, Option, Some, None, refl, sym, ap, ap₂, subst, ◌∙◌, ◌⊎◌, inl, inr, arith, if◌then◌else◌}
+use Rattle.std.proofs.Common.{◌≡◌, ◌≢◌, ◌<◌, ◌&&◌, ℕ, Bool, true, false, List, [], ◌∷◌, ◌++◌, length, set, Option, Some, None, refl, sym, ap, subst, ◌∙◌, ◌⊎◌, inl, inr, if◌then◌else◌}
 use Rattle.std.specs.Prelude.{◌==◌, nat_lt, slice_get}
 use Rattle.std.specs.Option.{option_map_or}
 use Rattle.std.proofs.lemmas.Bool.{and_parts, false≢true, eq-eqb, eqb-true, ltb-true}
@@ -10,7 +10,6 @@ use Rattle.qz_values.specs.declared.Value.{Value}
 use Rattle.qz_values.specs.declared.Know.{Know}
 use Rattle.qz_values.specs.declared.Know.TheVariants.{Unknown, Known, Clash}
 use Rattle.qz_values.specs.Values.{is_yes}
-use Rattle.qz_values.specs.Knowledge.{knows_yes}
 use Rattle.qz_nets.specs.Readings.{type_in}
 use Rattle.qz_syntax.specs.declared.declarations.Class.{Class}
 use Rattle.qz_syntax.specs.declared.declarations.Class.TheVariants.{Event, Mem}
@@ -18,21 +17,20 @@ use Rattle.qz_syntax.specs.declared.places.Later.{Later}
 use Rattle.qz_syntax.specs.declared.places.Store.{Store}
 use Rattle.qz_verilog.specs.Types.{NetTypes}
 use Rattle.qz_verilog.specs.Meaning.{Nets, value_at}
-use Rattle.qz_meaning.specs.Scenes.{store_of, default_store}
+use Rattle.qz_meaning.specs.Scenes.{store_of}
 use Rattle.qz_meaning.specs.Settling.{unwritten, settled_later}
 use Rattle.qz_meaning.specs.Verdicts.{Verdict, Nobody, Open, One, Torn}
 use Rattle.qz_system.specs.declared.parts.Cell.{Cell}
 use Rattle.qz_system.specs.declared.parts.Inst.{Inst}
 use Rattle.qz_system.specs.declared.parts.Carry.{Carry}
 use Rattle.qz_system.specs.declared.parts.SystemParts.{SystemParts}
-use Rattle.qz_system.specs.Parts.{AreParts, is_bool_net, is_carry_right}
+use Rattle.qz_system.specs.Parts.{is_bool_net, is_carry_right}
 use Rattle.qz_system.specs.Nexts.{is_known, is_told}
 use Rattle.qz_system.proofs.Finding.{the_type}
-use Rattle.qz_wires.specs.Rails.{Says}
 use Rattle.qz_equations.specs.declared.tallies.StoreNets.{StoreNets}
 use Rattle.qz_equations.specs.Tallies.{SaysVerdict, ShowsStore, IsStoreOf}
 use Rattle.qz_equations.specs.Ends.{store_at, coming, AreStores, ShowStores}
-use Rattle.qz_equations.proofs.Showing.{get_pushed}
+use Rattle.qz_wires.proofs.NetLists.{get_pushed}
 use Rattle.qz_equations.proofs.ActLemmas.{get_written, other_number}
 
 -- a store whose value is this

@@ -1,9 +1,8 @@
 -- Verdicts in nets.
-use Rattle.std.proofs.Common.{◌≡◌, Bool, true, false, not, ◌&&◌, ◌||◌, refl, ap, sym, ◌∙◌, arith, rules, if◌then◌else◌}
+use Rattle.std.proofs.Common.{◌≡◌, Bool, true, false, not, ◌&&◌, ◌||◌, refl, rules, if◌then◌else◌}
 use Rattle.qz_values.specs.declared.Ty.{Ty}
 use Rattle.qz_values.specs.declared.Value.{Value}
 use Rattle.qz_values.specs.declared.Know.{Know}
-use Rattle.qz_values.specs.declared.Know.TheVariants.{Unknown, Known, Clash}
 use Rattle.qz_values.specs.Values.{is_yes, truth_of}
 use Rattle.qz_syntax.specs.declared.declarations.Class.{Class}
 use Rattle.qz_syntax.specs.declared.places.Store.{Store}

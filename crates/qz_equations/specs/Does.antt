@@ -1,5 +1,5 @@
 -- When a module does a system: it begins with the initial valuation, and each clock is a step of the system.
-use Rattle.std.specs.Prelude.{ℕ, ◌≡◌, Bool, true, false, List, map, length, slice_index_or}
+use Rattle.std.specs.Prelude.{ℕ, ◌≡◌, true, false, List, map, length, slice_index_or}
 use Rattle.std.specs.Option.{option_map_or}
 use Rattle.std.specs.List.{All, range_with_len}
 use Rattle.qz_values.specs.declared.Value.{Value}

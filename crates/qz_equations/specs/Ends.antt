@@ -20,16 +20,13 @@ use Rattle.qz_meaning.specs.Scenes.{store_of, default_store}
 use Rattle.qz_meaning.specs.Settling.{settled_later}
 use Rattle.qz_system.specs.declared.parts.Cell.{Cell}
 use Rattle.qz_system.specs.declared.parts.Inst.{Inst}
-use Rattle.qz_system.specs.declared.parts.Carry.{Carry}
 use Rattle.qz_system.specs.declared.parts.SystemParts.{SystemParts}
 use Rattle.qz_system.specs.declared.valuation.Valuation.{Valuation}
 use Rattle.qz_system.specs.Valuations.{Fits}
 use Rattle.qz_system.specs.Writers.{verdict_of}
 use Rattle.qz_system.specs.Nexts.{is_known, is_told, rests_next, next_store}
-use Rattle.qz_wires.specs.declared.rails.Rail.{Rail}
 use Rattle.qz_wires.specs.Rails.{ShowEach}
 use Rattle.qz_wires.specs.NetRails.{AreNetRails}
-use Rattle.qz_equations.specs.declared.tallies.Tally.{Tally}
 use Rattle.qz_equations.specs.declared.tallies.StoreNets.{StoreNets}
 use Rattle.qz_equations.specs.declared.ends.LastRails.{LastRails}
 use Rattle.qz_equations.specs.Tallies.{ShowVerdicts, ShowsStore, IsStoreOf}
@@ -47,13 +44,6 @@ pub record IsShown (parts : SystemParts) (settled : Nets) (last : LastRails) (kn
   pub instances : ShowEach settled last.instances.items (listed knows)
   pub nets : ShowEach settled last.nets.items know
   pub delayed : ShowVerdicts settled last.delayed.items (λ n. verdict_of know n true parts.acts)
-
--- each value is known, each delayed value is known or absent, and so each net is known
-pub record AllKnown (parts : SystemParts) (knows : List Know) (laters : List Later) (know : ℕ → Know) : Type 0 where
-  pub known : (n : ℕ) (one : Inst) → slice_get parts.instances n ≡ Some one → is_known (slice_index_or knows n Unknown) ≡ true
-  pub later_is : (n : ℕ) (one : Inst) → slice_get parts.instances n ≡ Some one → slice_index_or laters n later.Unknown ≡ settled_later (verdict_of know n true parts.acts)
-  pub told : (n : ℕ) (one : Inst) → slice_get parts.instances n ≡ Some one → is_told (slice_index_or laters n later.Unknown) ≡ true
-  pub plain : (n : ℕ) (ty : Ty) → type_in parts.table n ≡ Some ty → is_known (know n) ≡ true
 
 -- they say what is known, and all is known
 pub record Ends (parts : SystemParts) (settled : Nets) (last : LastRails) (knows : List Know) (laters : List Later) (know : ℕ → Know) : Type 0 where

@@ -4,3 +4,4 @@ pub mod Tallies
 pub mod Unrolled
 pub mod Ends
 pub mod Modules
+pub mod Runs

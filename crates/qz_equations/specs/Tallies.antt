@@ -7,7 +7,6 @@ use Rattle.qz_values.specs.declared.Value.{Value}
 use Rattle.qz_values.specs.Types.{IsType}
 use Rattle.qz_values.specs.Values.{is_yes}
 use Rattle.qz_syntax.specs.declared.places.Store.{Store}
-use Rattle.qz_verilog.specs.declared.nets.Ref.{Ref}
 use Rattle.qz_verilog.specs.Types.{NetTypes}
 use Rattle.qz_verilog.specs.Validity.{IsNetOf}
 use Rattle.qz_verilog.specs.Meaning.{Nets, value_at}

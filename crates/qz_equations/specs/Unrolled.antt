@@ -1,5 +1,5 @@
 -- Rails and tallies of a system's instances in a round, and what an instance settles to.
-use Rattle.std.specs.Prelude.{ℕ, ◌≡◌, Bool, ◌||◌, nat_lt, List, length, Option, Some, slice_get, if◌then◌else◌}
+use Rattle.std.specs.Prelude.{ℕ, ◌≡◌, Bool, ◌||◌, nat_lt, List, length, Some, slice_get, if◌then◌else◌}
 use Rattle.std.specs.Option.{option_map_or}
 use Rattle.qz_values.specs.declared.Ty.{Ty}
 use Rattle.qz_values.specs.declared.Know.{Know}

@@ -8,6 +8,7 @@
 mod carrying;
 mod ends;
 mod instances;
+mod laws;
 mod leaves;
 mod module;
 mod nexts;
@@ -18,4 +19,5 @@ mod settling;
 mod tallies;
 mod writers;
 
+pub use laws::a_module_runs_as_its_system;
 pub use module::equations;

@@ -9,3 +9,5 @@ pub mod LeafRails
 pub mod Acting
 pub mod SettledRails
 pub mod Rounding
+pub mod Locating
+pub mod ReadBack

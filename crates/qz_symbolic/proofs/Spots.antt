@@ -263,3 +263,11 @@ input_start_small parts are j n below within =
     let b = flat_few (spots_of_input parts j) 0 n 1 (input_few parts j) in
     let c = are.fits_in_size.few_inputs in
     omega (arith, a, b, c)
+
+-- there is a bit for whether it is started, and one for each place
+front_long : (parts : SystemParts) (n : ℕ) → 1 + length parts.places ≤ length (spots_of_groups parts n)
+front_long parts n = let count = groups_count parts n in omega (arith, count)
+
+pub spots_front : (parts : SystemParts) → 1 + length parts.places ≤ length (spots parts)
+unfolding spots
+spots_front parts = front_long parts 64

@@ -1,4 +1,5 @@
 pub mod Variables
+pub mod Spelling
 pub mod Positions
 pub mod Telling
 pub mod Placings

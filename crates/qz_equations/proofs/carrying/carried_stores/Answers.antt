@@ -1,4 +1,4 @@
-use Rattle.std.proofs.Common.{◌≡◌, ◌<◌, ◌≤◌, ◌+◌, ◌-◌, ◌==◌, ◌&&◌, ℕ, Option, List, [], Some, None, refl, ap, sym, subst, ◌∙◌, arith, length, get_or, drop, if◌then◌else◌}
+use Rattle.std.proofs.Common.{◌≡◌, ◌<◌, ◌+◌, ◌-◌, ◌==◌, ◌&&◌, ℕ, Option, Some, None, ap, sym, subst, ◌∙◌, arith, length, get_or, drop, if◌then◌else◌}
 use Rattle.std.proofs.lemmas.List.{drop_more, drop_all}
 use Rattle.qz_values.specs.Knowledge.{knows_yes}
 use Rattle.qz_system.specs.declared.parts.Carry.{Carry}

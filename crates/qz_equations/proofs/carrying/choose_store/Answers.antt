@@ -1,4 +1,4 @@
-use Rattle.std.proofs.Common.{◌≡◌, ap, ◌∙◌}
+use Rattle.std.proofs.Common.{ap, ◌∙◌}
 use Rattle.qz_values.specs.Values.{is_yes}
 use Rattle.qz_verilog.specs.Meaning.{value_at}
 use Rattle.qz_wires.proofs.Through.{through}

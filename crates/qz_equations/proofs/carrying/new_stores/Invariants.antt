@@ -1,4 +1,4 @@
-use Rattle.std.proofs.Common.{◌≡◌, ℕ, List, None, length}
+use Rattle.std.proofs.Common.{◌≡◌, List, None, length}
 use Rattle.qz_values.specs.declared.Know.{Know}
 use Rattle.qz_syntax.specs.declared.places.Later.{Later}
 use Rattle.qz_verilog.specs.Meaning.{Nets}

@@ -1,9 +1,7 @@
-use Rattle.std.proofs.Common.{◌≡◌, ◌<◌, Some, refl, true, ap, sym, subst, ◌∙◌, arith, length}
-use Rattle.std.specs.Prelude.{slice_get, slice_index_or}
+use Rattle.std.proofs.Common.{◌≡◌, refl, true, ap, sym, subst, ◌∙◌, arith, length}
 use Rattle.std.proofs.lemmas.Option.{slice_get_read}
 use Rattle.qz_nets.specs.Readings.{listed}
 use Rattle.qz_syntax.specs.declared.places.Later.{Later}
-use Rattle.qz_syntax.specs.declared.places.Later.TheVariants as later
 use Rattle.qz_meaning.specs.Scenes.{store_of}
 use Rattle.qz_meaning.specs.Settling.{settled_later}
 use Rattle.qz_system.specs.Writers.{verdict_of}

@@ -1,7 +1,5 @@
-use Rattle.std.proofs.Common.{◌≡◌, ap, sym, subst, ◌∙◌, if◌then◌else◌}
-use Rattle.qz_values.specs.declared.Value.{Value}
+use Rattle.std.proofs.Common.{sym, subst, ◌∙◌}
 use Rattle.qz_values.specs.declared.Know.{Know}
-use Rattle.qz_values.specs.declared.Know.TheVariants.{Known}
 use Rattle.qz_values.specs.Values.{is_yes}
 use Rattle.qz_verilog.specs.Meaning.{value_at}
 use Rattle.qz_meaning.specs.Scenes.{store_of}

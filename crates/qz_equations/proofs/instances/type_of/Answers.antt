@@ -1,7 +1,3 @@
-use Rattle.std.proofs.Common.{◌≡◌, Some}
-use Rattle.std.proofs.lemmas.Option.{slice_get-get_or}
-use Rattle.std.specs.Prelude.{slice_get}
-use Rattle.qz_system.specs.declared.parts.Inst.{Inst}
 use Rattle.qz_equations.proofs.InstanceLemmas.{there, type_is}
 use Rattle.qz_equations.proofs.instances.type_of.Goals as goal
 

@@ -1,7 +1,5 @@
-use Rattle.std.proofs.Common.{◌≡◌, ◌<◌, true, ap, sym, subst, ◌∙◌, arith, length, get_or}
+use Rattle.std.proofs.Common.{ap, sym, subst, ◌∙◌, arith}
 use Rattle.std.proofs.lemmas.Option.{slice_get-get_or}
-use Rattle.qz_system.specs.declared.parts.SystemLeaf.{SystemLeaf}
-use Rattle.qz_system.specs.declared.parts.SystemLeaf.TheVariants as leaf
 use Rattle.qz_system.specs.Parts.{is_leaf_right, leaf_stands}
 use Rattle.qz_system.specs.Rounds.{leaf_known}
 use Rattle.qz_wires.specs.Rails.{Shows}

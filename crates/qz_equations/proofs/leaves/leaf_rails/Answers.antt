@@ -1,20 +1,18 @@
-use Rattle.std.proofs.Common.{◌≡◌, ℕ, List, Some, true, ap, sym, subst, ◌∙◌, arith, length, get_or}
+use Rattle.std.proofs.Common.{◌≡◌, List, Some, ap, sym, subst, ◌∙◌, arith, length, get_or}
 use Rattle.std.specs.Prelude.{slice_get}
 use Rattle.std.proofs.lemmas.Grind.{common_steps}
 use Rattle.std.proofs.lemmas.Option.{slice_get-get_or}
 use Rattle.qz_nets.specs.Readings.{listed}
 use Rattle.qz_system.specs.declared.parts.SystemLeaf.{SystemLeaf}
 use Rattle.qz_system.specs.declared.parts.SystemLeaf.TheVariants as leaf
-use Rattle.qz_system.specs.Parts.{is_leaf_right}
 use Rattle.qz_system.specs.Rounds.{leaves_known}
-use Rattle.qz_system.proofs.Finding.{all_at}
 use Rattle.qz_wires.specs.declared.rails.Rail.{Rail}
 use Rattle.qz_wires.specs.WireTable.{types_in}
 use Rattle.qz_wires.specs.Rails.{Shows, ShowEach}
 use Rattle.qz_wires.proofs.Through.{through}
 use Rattle.qz_equations.specs.Unrolled.{AreLeavesOf}
 use Rattle.qz_equations.proofs.Keeping.{instances_kept, leaves_kept}
-use Rattle.qz_equations.proofs.Showing.{show_more}
+use Rattle.qz_wires.proofs.NetLists.{show_more}
 use Rattle.qz_equations.proofs.LeafLemmas.{leaf_rails_more, leaf_at}
 use Rattle.qz_equations.proofs.leaves.leaf_rails.Goals as goal
 

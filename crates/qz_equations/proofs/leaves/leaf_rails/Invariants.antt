@@ -1,4 +1,4 @@
-use Rattle.std.proofs.Common.{◌≡◌, ℕ, List, length}
+use Rattle.std.proofs.Common.{◌≡◌, List, length}
 use Rattle.qz_values.specs.declared.Know.{Know}
 use Rattle.qz_nets.specs.Readings.{listed}
 use Rattle.qz_verilog.specs.Meaning.{Nets}

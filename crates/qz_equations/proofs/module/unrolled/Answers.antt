@@ -1,16 +1,15 @@
-use Rattle.std.proofs.Common.{◌≡◌, ◌≤◌, ℕ, List, true, refl, ap, sym, subst, ◌∙◌, arith, length, map, take}
+use Rattle.std.proofs.Common.{◌≡◌, ◌≤◌, List, refl, ap, sym, subst, ◌∙◌, arith, length, map, take}
 use Rattle.qz_values.specs.declared.Ty.{Ty}
 use Rattle.qz_values.specs.declared.Value.{Value}
-use Rattle.qz_verilog.specs.declared.nets.Ref.{Ref}
 use Rattle.qz_verilog.specs.declared.nets.Rhs.{Rhs}
-use Rattle.qz_verilog.specs.Validity.{AreNetsOf, IsValid, port_types}
-use Rattle.qz_verilog.specs.Meaning.{Nets, value_at, Satisfies}
-use Rattle.qz_verilog.specs.Runs.{nets_of, IsClock}
+use Rattle.qz_verilog.specs.Validity.{AreNetsOf, port_types}
+use Rattle.qz_verilog.specs.Meaning.{value_at, Satisfies}
+use Rattle.qz_verilog.specs.Runs.{nets_of}
 use Rattle.qz_system.specs.declared.valuation.Valuation.{Valuation}
 use Rattle.qz_wires.specs.declared.rails.Rail.{Rail}
-use Rattle.qz_wires.specs.WireTable.{rights, types_in, Reads}
+use Rattle.qz_wires.specs.WireTable.{types_in, Reads}
 use Rattle.qz_equations.specs.Registers.{AreOver, Holds, registers_at, inputs_at}
-use Rattle.qz_equations.specs.Does.{IsStep, ClocksAt}
+use Rattle.qz_equations.specs.Does.{ClocksAt}
 use Rattle.qz_equations.specs.Modules.{rail_values}
 use Rattle.qz_equations.proofs.Keeping.{over_kept, instances_kept}
 use Rattle.qz_equations.proofs.RegisterLemmas.{begins_with}

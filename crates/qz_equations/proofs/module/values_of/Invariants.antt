@@ -1,5 +1,4 @@
-use Rattle.std.proofs.Common.{◌≡◌, ◌++◌, map, drop, take}
-use Rattle.qz_wires.specs.declared.rails.Rail.{Rail}
+use Rattle.std.proofs.Common.{◌≡◌, ◌++◌, drop}
 use Rattle.qz_equations.specs.Modules.{rail_values}
 use Rattle.qz_equations.proofs.module.values_of.Given as goal
 

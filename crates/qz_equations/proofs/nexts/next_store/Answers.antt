@@ -5,8 +5,7 @@ use Rattle.std.proofs.lemmas.Option.{slice_get_read, slice_get_within, same_Some
 use Rattle.qz_system.specs.declared.parts.Cell.{Cell}
 use Rattle.qz_system.specs.declared.parts.Inst.{Inst}
 use Rattle.qz_system.specs.Nexts.{first_carry, instance_of, source}
-use Rattle.qz_wires.specs.WireTable.{types_in}
-use Rattle.qz_equations.specs.Tallies.{ShowsStore, IsStoreOf}
+use Rattle.qz_equations.specs.Tallies.{ShowsStore}
 use Rattle.qz_equations.specs.Ends.{coming}
 use Rattle.qz_equations.proofs.OutputLemmas.{output_first}
 use Rattle.qz_equations.proofs.nexts.next_store.Goals as goal

@@ -1,21 +1,20 @@
-use Rattle.std.proofs.Common.{◌≡◌, ◌+◌, ◌∷◌, ◌++◌, ℕ, Bool, true, List, Some, refl, ap, ap₂, sym, subst, ◌∙◌, arith, length, map}
-use Rattle.std.specs.Prelude.{slice_get, replicate}
+use Rattle.std.proofs.Common.{◌≡◌, ◌+◌, ◌∷◌, ◌++◌, ℕ, Bool, List, ap, ap₂, sym, subst, ◌∙◌, arith, length, map}
+use Rattle.std.specs.Prelude.{replicate}
 use Rattle.std.specs.List.{range_with_len}
 use Rattle.std.proofs.lemmas.Option.{same_Some, slice_get_within}
 use Rattle.qz_values.specs.declared.Ty.{Ty}
 use Rattle.qz_values.specs.declared.Ty.TheVariants.{Bool as Truth}
 use Rattle.qz_values.specs.declared.Value.{Value}
-use Rattle.qz_values.specs.Values.{truth_of, value_of, is_yes, bits_of}
+use Rattle.qz_values.specs.Values.{truth_of, value_of, bits_of}
 use Rattle.qz_verilog.specs.declared.nets.Ref.{Ref}
 use Rattle.qz_verilog.specs.Validity.{AreNetsOf}
 use Rattle.qz_verilog.specs.Meaning.{value_at}
 use Rattle.qz_verilog.specs.Simulation.{row_of}
-use Rattle.qz_system.specs.Nexts.{rests_next, source, next_store}
+use Rattle.qz_system.specs.Nexts.{rests_next, next_store}
 use Rattle.qz_wires.specs.WireTable.{types_in}
 use Rattle.qz_wires.proofs.Through.{through}
 use Rattle.qz_equations.specs.declared.tallies.StoreNets.{StoreNets}
 use Rattle.qz_equations.specs.Registers.{cell_types, marks_of, bits_of_stores}
-use Rattle.qz_equations.specs.Ends.{coming}
 use Rattle.qz_equations.proofs.InstanceLemmas.{cell_there}
 use Rattle.qz_equations.proofs.Keeping.{last_kept, flags_kept, stores_kept}
 use Rattle.qz_equations.proofs.RegisterLemmas.{store_count}

@@ -1,10 +1,8 @@
-use Rattle.std.proofs.Common.{◌≡◌, ◌<◌, ◌+◌, ◌||◌, ◌&&◌, ◌==◌, ℕ, Bool, false, List, [], ◌∷◌, Some, refl, ap, sym, subst, ◌∙◌, arith, length, get_or, drop}
+use Rattle.std.proofs.Common.{◌≡◌, ◌+◌, ◌||◌, ◌&&◌, ◌==◌, ℕ, Bool, false, List, [], refl, ap, sym, ◌∙◌, get_or, drop}
 use Rattle.std.specs.List.{list_any}
 use Rattle.std.proofs.lemmas.List.{drop_more, drop_all}
 use Rattle.qz_values.specs.Knowledge.{knows_yes}
-use Rattle.qz_values.specs.Values.{is_yes}
 use Rattle.qz_nets.specs.declared.net.NetId.{NetId}
-use Rattle.qz_verilog.specs.Meaning.{value_at}
 use Rattle.qz_wires.proofs.Through.{through}
 use Rattle.qz_equations.proofs.Keeping.{last_kept}
 use Rattle.qz_equations.proofs.FlagLemmas.{or_assoc, or_nothing}

@@ -1,9 +1,10 @@
-use Rattle.std.proofs.Common.{◌≡◌, ℕ, true, List, ap, sym, subst, ◌∙◌}
+use Rattle.std.proofs.Common.{List, sym, subst}
 use Rattle.qz_nets.specs.Readings.{listed}
 use Rattle.qz_wires.specs.declared.rails.Rail.{Rail}
 use Rattle.qz_wires.specs.Rails.{ShowEach}
 use Rattle.qz_wires.proofs.Through.{through}
-use Rattle.qz_equations.proofs.Keeping.{instances_kept, net_rails_kept}
+use Rattle.qz_wires.proofs.NetLists.{net_rails_kept}
+use Rattle.qz_equations.proofs.Keeping.{instances_kept}
 use Rattle.qz_equations.proofs.rounds.last_rails.Goals as goal
 
 pub returns-clause-extends : goal.returns-clause-extends

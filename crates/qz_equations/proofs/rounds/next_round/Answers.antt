@@ -1,6 +1,4 @@
-use Rattle.std.proofs.Common.{◌≡◌, ℕ, Some, None, Option, false, List, refl, ap, sym, subst, ◌∙◌}
-use Rattle.std.specs.Prelude.{slice_get}
-use Rattle.qz_values.specs.declared.Know.{Know}
+use Rattle.std.proofs.Common.{false, List, sym, subst}
 use Rattle.qz_wires.specs.declared.rails.Rail.{Rail}
 use Rattle.qz_wires.specs.Rails.{ShowEach}
 use Rattle.qz_wires.proofs.Through.{through}

@@ -1,6 +1,4 @@
-use Rattle.std.proofs.Common.{◌≡◌, ◌≤◌, ◌+◌, ℕ, suc, List, refl, ap, sym, subst, ◌∙◌, arith, length, add-one}
-use Rattle.std.proofs.lemmas.List.{get_or-replicate}
-use Rattle.qz_values.specs.declared.Know.{Know}
+use Rattle.std.proofs.Common.{◌≡◌, List, sym, subst, arith, add-one}
 use Rattle.qz_nets.specs.Readings.{listed}
 use Rattle.qz_system.specs.Nexts.{IsNthRound}
 use Rattle.qz_wires.specs.declared.rails.Rail.{Rail}

@@ -1,8 +1,7 @@
-use Rattle.std.proofs.Common.{◌≡◌, ◌<◌, ℕ, List, Some, refl, ap, sym, subst, ◌∙◌, arith, length}
+use Rattle.std.proofs.Common.{List, ap, sym, subst, ◌∙◌, arith}
 use Rattle.std.proofs.lemmas.Grind.{common_steps}
 use Rattle.std.proofs.lemmas.Option.{same_Some}
 use Rattle.qz_values.specs.declared.Know.TheVariants.{Unknown}
-use Rattle.qz_values.specs.Values.{is_yes}
 use Rattle.qz_system.specs.Parts.{instance_type}
 use Rattle.qz_system.proofs.TypingLemmas.{instance_typed}
 use Rattle.qz_wires.specs.declared.rails.Rail.{Rail}
@@ -11,7 +10,8 @@ use Rattle.qz_wires.specs.Rails.{ShowEach, IsRail}
 use Rattle.qz_wires.proofs.Through.{through}
 use Rattle.qz_equations.specs.Unrolled.{AreFirstRails}
 use Rattle.qz_equations.proofs.Keeping.{first_rails_kept}
-use Rattle.qz_equations.proofs.Showing.{show_more, first_rails_more}
+use Rattle.qz_wires.proofs.NetLists.{show_more}
+use Rattle.qz_equations.proofs.Showing.{first_rails_more}
 use Rattle.qz_equations.proofs.rounds.unknown_rails.Goals as goal
 
 pub unknown_rail-requires : goal.unknown_rail-requires

@@ -1,4 +1,4 @@
-use Rattle.std.proofs.Common.{◌≡◌, ℕ, length}
+use Rattle.std.proofs.Common.{◌≡◌, length}
 use Rattle.qz_values.specs.declared.Know.TheVariants.{Unknown}
 use Rattle.qz_verilog.specs.Meaning.{Nets}
 use Rattle.qz_wires.specs.WireTable.{types_in, Reads, Extends}

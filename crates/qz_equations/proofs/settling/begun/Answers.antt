@@ -1,12 +1,8 @@
-use Rattle.std.proofs.Common.{◌≡◌, ◌∙◌, ◌+◌, ap, sym, subst, true, false, if◌then◌else◌, length}
-use Rattle.qz_verilog.specs.declared.nets.Ref.TheVariants as net
-use Rattle.qz_verilog.specs.Meaning.{value_at}
+use Rattle.std.proofs.Common.{◌∙◌, ap, sym, subst, if◌then◌else◌}
 use Rattle.qz_system.specs.Valuations.{store_of}
-use Rattle.qz_system.specs.Rounds.{begins, stored}
+use Rattle.qz_system.specs.Rounds.{stored}
 use Rattle.qz_meaning.specs.Scenes.{default_store}
 use Rattle.qz_equations.specs.Tallies.{ShowsStore}
-use Rattle.qz_equations.specs.Unrolled.{begun, is_kept}
-use Rattle.qz_equations.specs.declared.tallies.StoreNets.{StoreNets}
 use Rattle.qz_system.proofs.FitLemmas.{cell_typed}
 use Rattle.qz_equations.proofs.BegunLemmas.{begins_is, kept_store, kept_typed}
 use Rattle.qz_equations.proofs.settling.begun.Goals as goal

@@ -1,4 +1,4 @@
-use Rattle.std.proofs.Common.{◌≡◌, Option, Some, ap, sym, subst, ◌∙◌}
+use Rattle.std.proofs.Common.{Option, sym, subst}
 use Rattle.std.specs.Option.{option_map_or}
 use Rattle.qz_values.specs.declared.Know.TheVariants.{Unknown}
 use Rattle.qz_system.specs.declared.parts.Inst.{Inst}

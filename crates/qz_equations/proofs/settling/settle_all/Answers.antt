@@ -1,16 +1,16 @@
-use Rattle.std.proofs.Common.{◌≡◌, ◌<◌, ℕ, List, Some, ap, sym, subst, ◌∙◌, arith, length, get_or}
-use Rattle.std.specs.Prelude.{slice_get}
+use Rattle.std.proofs.Common.{ℕ, List, ap, sym, subst, ◌∙◌, arith}
 use Rattle.std.proofs.lemmas.Grind.{common_steps}
 use Rattle.std.proofs.lemmas.Option.{slice_get-get_or}
 use Rattle.qz_values.specs.declared.Know.{Know}
 use Rattle.qz_system.specs.Parts.{instance_type}
 use Rattle.qz_wires.specs.declared.rails.Rail.{Rail}
 use Rattle.qz_wires.specs.WireTable.{types_in}
-use Rattle.qz_wires.specs.Rails.{Shows, ShowEach, IsRail}
+use Rattle.qz_wires.specs.Rails.{Shows, ShowEach}
 use Rattle.qz_wires.proofs.Through.{through}
-use Rattle.qz_equations.specs.Unrolled.{settles_at, AreFirstRails, AreInstanceRails}
+use Rattle.qz_equations.specs.Unrolled.{settles_at, AreFirstRails}
 use Rattle.qz_equations.proofs.Keeping.{over_kept, tally_kept, first_rails_kept}
-use Rattle.qz_equations.proofs.Showing.{show_more, first_rails_more}
+use Rattle.qz_wires.proofs.NetLists.{show_more}
+use Rattle.qz_equations.proofs.Showing.{first_rails_more}
 use Rattle.qz_equations.proofs.settling.settle_all.Goals as goal
 
 pub settle-requires-clause-over : goal.settle-requires-clause-over

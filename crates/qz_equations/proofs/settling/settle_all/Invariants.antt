@@ -1,13 +1,9 @@
-use Rattle.std.proofs.Common.{◌≡◌, ℕ, List, Some, length}
-use Rattle.std.specs.Prelude.{slice_get}
-use Rattle.qz_values.specs.declared.Ty.{Ty}
+use Rattle.std.proofs.Common.{◌≡◌, ℕ, length}
 use Rattle.qz_verilog.specs.Meaning.{Nets}
 use Rattle.qz_meaning.specs.Verdicts.{Verdict}
 use Rattle.qz_system.specs.declared.valuation.Valuation.{Valuation}
-use Rattle.qz_system.specs.Parts.{instance_type}
-use Rattle.qz_wires.specs.declared.rails.Rail.{Rail}
 use Rattle.qz_wires.specs.WireTable.{types_in, Reads, Extends}
-use Rattle.qz_wires.specs.Rails.{ShowEach, IsRail}
+use Rattle.qz_wires.specs.Rails.{ShowEach}
 use Rattle.qz_equations.specs.Registers.{Holds}
 use Rattle.qz_equations.specs.Tallies.{ShowVerdicts}
 use Rattle.qz_equations.specs.Unrolled.{settles_at, AreFirstRails}

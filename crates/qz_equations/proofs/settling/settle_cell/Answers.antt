@@ -1,9 +1,9 @@
-use Rattle.std.proofs.Common.{◌≡◌, Option, Some, ap, sym, subst, ◌∙◌}
+use Rattle.std.proofs.Common.{Option, sym, subst}
 use Rattle.std.specs.Option.{option_map_or}
 use Rattle.qz_values.specs.declared.Know.TheVariants.{Unknown}
 use Rattle.qz_meaning.specs.Settling.{with_pending, settled}
 use Rattle.qz_system.specs.declared.parts.Cell.{Cell}
-use Rattle.qz_system.specs.Rounds.{begins, settles}
+use Rattle.qz_system.specs.Rounds.{begins}
 use Rattle.qz_wires.specs.Rails.{Shows}
 use Rattle.qz_wires.proofs.Through.{through}
 use Rattle.qz_equations.proofs.settling.settle_cell.Goals as goal

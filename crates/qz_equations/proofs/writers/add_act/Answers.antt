@@ -1,15 +1,12 @@
-use Rattle.std.proofs.Common.{◌≡◌, ◌<◌, ℕ, List, Some, refl, ap, sym, subst, ◌∙◌, arith, length, get_or}
-use Rattle.std.specs.Prelude.{slice_get}
+use Rattle.std.proofs.Common.{◌≡◌, Some, refl, ap, sym, subst, ◌∙◌, arith, length}
 use Rattle.std.proofs.lemmas.Grind.{common_steps}
 use Rattle.std.proofs.lemmas.Option.{slice_get-get_or, slice_get_read, same_Some}
 use Rattle.qz_values.specs.declared.Ty.TheVariants.{Bool as Truth}
 use Rattle.qz_values.specs.declared.Ty.{Ty}
 use Rattle.qz_nets.specs.Readings.{type_in}
-use Rattle.qz_system.specs.Parts.{instance_type}
 use Rattle.qz_system.proofs.TypingLemmas.{instance_within}
 use Rattle.qz_wires.specs.WireTable.{types_in}
-use Rattle.qz_wires.specs.Rails.{IsRail, ShowEach}
-use Rattle.qz_equations.specs.Tallies.{IsTally, ShowVerdicts}
+use Rattle.qz_equations.specs.Tallies.{IsTally}
 use Rattle.qz_equations.proofs.Keeping.{tallies_kept}
 use Rattle.qz_equations.proofs.NetLemmas.{net_within}
 use Rattle.qz_equations.proofs.ActLemmas.{guard_is, value_is, one_counted, tallies_written}

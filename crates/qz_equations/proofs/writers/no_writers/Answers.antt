@@ -1,7 +1,7 @@
-use Rattle.std.proofs.Common.{◌≡◌, ◌<◌, ℕ, List, Some, ap, sym, subst, ◌∙◌, arith, length}
+use Rattle.std.proofs.Common.{List, ap, sym, subst, ◌∙◌, arith}
 use Rattle.std.proofs.lemmas.Grind.{common_steps}
 use Rattle.std.proofs.lemmas.Option.{same_Some}
-use Rattle.qz_meaning.specs.Verdicts.{Verdict, Nobody}
+use Rattle.qz_meaning.specs.Verdicts.{Nobody}
 use Rattle.qz_system.specs.Parts.{instance_type}
 use Rattle.qz_system.proofs.TypingLemmas.{instance_typed}
 use Rattle.qz_wires.specs.WireTable.{types_in}

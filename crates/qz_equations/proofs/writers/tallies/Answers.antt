@@ -1,14 +1,11 @@
-use Rattle.std.proofs.Common.{◌≡◌, ◌<◌, ◌+◌, ℕ, List, [], Some, true, refl, ap, sym, subst, ◌∙◌, arith, length, get_or, drop, if◌then◌else◌}
+use Rattle.std.proofs.Common.{◌≡◌, ◌+◌, ℕ, List, [], refl, ap, sym, subst, ◌∙◌, get_or, drop}
 use Rattle.std.proofs.lemmas.List.{drop_more, drop_all}
-use Rattle.std.proofs.lemmas.Option.{slice_get-get_or}
-use Rattle.qz_meaning.specs.Verdicts.{Verdict, Nobody}
+use Rattle.qz_meaning.specs.Verdicts.{Nobody}
 use Rattle.qz_system.specs.declared.parts.Act.{Act}
-use Rattle.qz_system.specs.Parts.{is_act_right}
 use Rattle.qz_system.specs.Writers.{tally_of}
-use Rattle.qz_system.proofs.Finding.{all_at}
 use Rattle.qz_wires.proofs.Through.{through}
 use Rattle.qz_equations.specs.Tallies.{ShowsVerdict}
-use Rattle.qz_equations.proofs.Keeping.{net_rails_kept}
+use Rattle.qz_wires.proofs.NetLists.{net_rails_kept}
 use Rattle.qz_equations.proofs.ActLemmas.{with_one, no_act}
 use Rattle.qz_equations.proofs.writers.tallies.Goals as goal
 

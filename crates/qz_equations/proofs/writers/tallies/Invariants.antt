@@ -1,4 +1,4 @@
-use Rattle.std.proofs.Common.{◌≡◌, ℕ, length, drop}
+use Rattle.std.proofs.Common.{◌≡◌, ℕ, drop}
 use Rattle.qz_values.specs.declared.Know.{Know}
 use Rattle.qz_verilog.specs.Meaning.{Nets}
 use Rattle.qz_meaning.specs.Verdicts.{Verdict}
