@@ -1,0 +1,2 @@
+pub mod RoundNumbers
+pub mod DefiniteSame
